@@ -1,0 +1,1 @@
+// Tables of pairs: what stands beside a number (specs/Tables.antt).

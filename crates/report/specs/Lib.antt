@@ -1,0 +1,4 @@
+pub mod Made
+pub mod Meanings
+pub mod Pushes
+pub mod Sound

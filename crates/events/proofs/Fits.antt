@@ -7,6 +7,7 @@ use Prim.Native.Nat.{ℕ, _≤_}
 use native.Mathlib.Omega.{arith}
 use lib.Dec.{leb}
 use lib.ListN.{length}
+use Rattle.std.specs.Options.{isSome}
 use Rattle.std.specs.Text.{Utf8}
 use Rattle.std.specs.shelf.Text.{decodes}
 use Rattle.std.proofs.shelf.Tests.{cases-bool, or-parts, not-false, leb-true}
@@ -17,7 +18,7 @@ use Rattle.events.specs.Kinds.{PlainKind, character, composed, numpad, functio
 use Rattle.events.specs.Events.{PlainEvent, Fit}
 use Rattle.events.specs.declared.fault.Fault.{Fault}
 use Rattle.events.specs.declared.fault.Fault.the-variants.{NotAllowed, OutOfRange, NotText, TooLong}
-use Rattle.events.specs.Faults.{before, utf8, front, placeAfter, tooLong, textFault, charFault, rangeFault, composedFault, unnamed, partFault, rawFault, eventFault}
+use Rattle.events.specs.Faults.{before, utf8, front, placeAfter, tooLong, textFault, charFault, rangeFault, composedFault, unnamed, partFault, rawFault, eventFault, faultless}
 use Rattle.events.proofs.Fronts.{utf8-decides}
 use Rattle.events.proofs.Places.{few}
 
@@ -62,11 +63,16 @@ module _ (m l : ℕ) where
   part-fit (lettered x) h = tt
   part-fit other h = tt
 
-pub fit : (e : PlainEvent) → eventFault e ≡ None → Fit (e .key .kind)
-fit e h = part-fit (e .modifiers) (e .leds) (e .key .kind) (before-none (partFault (e .key .kind) (e .modifiers) (e .leds)) (rawFault (e .raw)) h)
+none-from : (o : Option Fault) → not (isSome o) ≡ true → o ≡ None
+none-from None h = refl
+none-from (Some f) h = absurd (let z : _≡_ {A = ℕ} 0 1 = cc in omega arith)
+
+own-part : (e : PlainEvent) → faultless e ≡ true → partFault (e .key .kind) (e .modifiers) (e .leds) ≡ None
+own-part e h = before-none (partFault (e .key .kind) (e .modifiers) (e .leds)) (rawFault (e .raw)) (none-from (eventFault e) h)
+
+pub fit : (e : PlainEvent) → faultless e ≡ true → Fit (e .key .kind)
+fit e h = part-fit (e .modifiers) (e .leds) (e .key .kind) (own-part e h)
 
 -- the character of an event with no fault is no private code
-pub allowed : (e : PlainEvent) (c : ℕ) → eventFault e ≡ None → e .key .kind ≡ character c → private c ≡ false
-allowed e c h k =
-    let p = parts (e .modifiers) (e .leds) (e .key .kind) (before-none (partFault (e .key .kind) (e .modifiers) (e .leds)) (rawFault (e .raw)) h) .0 in
-    rw k at p
+pub allowed : (e : PlainEvent) (c : ℕ) → faultless e ≡ true → e .key .kind ≡ character c → private c ≡ false
+allowed e c h k = let p = parts (e .modifiers) (e .leds) (e .key .kind) (own-part e h) .0 in rw k at p

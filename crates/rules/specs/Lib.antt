@@ -1,0 +1,5 @@
+pub mod Laws
+pub mod Pads
+pub mod Rules
+pub mod Strokes
+pub mod Typed

@@ -16,14 +16,14 @@ use Rattle.events.specs.Events.{PlainEvent, plainEvent, sum, direction, guess}
 use Rattle.events.specs.Faults.{faultless}
 use Rattle.rules.specs.Rules.{tells, padGuess}
 
--- what is told, if anything, is clear
-abbrev pub Clear-told : Option Meaning → Type 0
-Clear-told None = Unit {0}
-Clear-told (Some m) = Clear m
+-- P holds of what is told, if anything is
+abbrev pub Told : (Meaning → Type 0) → Option Meaning → Type 0
+Told P None = Unit {0}
+Told P (Some m) = P m
 
 -- Where escape codes are disambiguated, what is told is clear.
 abbrev pub Told-clear : Type 0
-Told-clear = (base : ℕ → ℕ) (flags : ℕ) (e : PlainEvent) → holds flags disambiguate ≡ true → Clear-told (tells base flags e)
+Told-clear = (base : ℕ → ℕ) (flags : ℕ) (e : PlainEvent) → holds flags disambiguate ≡ true → Told Clear (tells base flags e)
 
 -- no key of the keypad is guessed
 abbrev pub Off-keypad : PlainEvent → Type 0
@@ -39,16 +39,15 @@ pub record Lawful (base : ℕ → ℕ) : Type 0 where
   pub kept : (c : ℕ) → private c ≡ false → private (base c) ≡ false
 
 -- the number of a sequence is one that the layout leaves alone, and no code that stands for another key
-abbrev pub Own : (ℕ → ℕ) → Option Meaning → Type 0
-Own base None = Unit {0}
-Own base (Some (text c)) = Unit {0}
-Own base (Some (old c)) = Unit {0}
-Own base (Some (answer n)) = Unit {0}
-Own base (Some (sequence f)) = (base (f .number) ≡ f .number) × (private (f .number) ≡ false)
+abbrev pub Own : (ℕ → ℕ) → Meaning → Type 0
+Own base (text c) = Unit {0}
+Own base (old c) = Unit {0}
+Own base (answer n) = Unit {0}
+Own base (sequence f) = (base (f .number) ≡ f .number) × (private (f .number) ≡ false)
 
 -- A character key tells its own number.
 abbrev pub Own-number : Type 0
-Own-number = (base : ℕ → ℕ) (flags : ℕ) (e : PlainEvent) (c : ℕ) → Lawful base → faultless e ≡ true → Character-key e c → Own base (tells base flags e)
+Own-number = (base : ℕ → ℕ) (flags : ℕ) (e : PlainEvent) (c : ℕ) → Lawful base → faultless e ≡ true → Character-key e c → Told (Own base) (tells base flags e)
 
 -- the final of an arrow, Home or End
 abbrev pub Arrow : Last → Type 0

@@ -3,9 +3,10 @@ ghost use mathlib.Core.Path.{_≡_};
 ghost use mathlib.Core.Bool.{true};
 ghost use Prim.Native.Nat.{ℕ};
 ghost use Rattle.std.specs.Options.{mapped};
-ghost use Rattle.report.specs.Meanings.{means};
+ghost use Rattle.report.specs.Meanings.{Clear, means};
 ghost use Rattle.input_types.specs.Bits.{holds, disambiguate};
 ghost use Rattle.events.specs.Passed.{eventOf};
+ghost use Rattle.rules.specs.Laws.{Told, Own, Character-key};
 ghost use Rattle.rules.specs.Strokes.{plainStroke};
 ghost use Rattle.rules.specs.Rules.{stroke, tells};
 use crate::early::keypad_rule;
@@ -29,8 +30,8 @@ fn stroke_of(flags: KittyKeyboardFlags, key: Checked) -> Stroke
     }
 }
 
-// What an event that passed the check tells, or nothing.
-pub fn tell<L: Layout>(layout: &L, flags: KittyKeyboardFlags, key: Checked) -> Option<Report>
+// What the first rule that fits says, if it says anything.
+fn first_said<L: Layout>(layout: &L, flags: KittyKeyboardFlags, key: Checked) -> Option<Report>
     ensures { λ r. ⌜ mapped means r ≡ tells (base (now (layout .entry))) (flags .bits) (eventOf (key .entry)) ⌝ }
 {
     if !key.is_down() && !flags.contains(KittyKeyboardFlags::REPORT_EVENT_TYPES) {
@@ -46,4 +47,14 @@ pub fn tell<L: Layout>(layout: &L, flags: KittyKeyboardFlags, key: Checked) -> O
         return Some(report);
     }
     late_rules(layout, flags, key, kind, &stroke)
+}
+
+// What an event that passed the check tells, or nothing. Where escape codes are disambiguated it is clear;
+// and a character key tells a number that the layout leaves alone and that stands for no other key.
+pub fn tell<L: Layout>(layout: &L, flags: KittyKeyboardFlags, key: Checked) -> Option<Report>
+    ensures value { λ r. ⌜ mapped means r ≡ tells (base (now (layout .entry))) (flags .bits) (eventOf (key .entry)) ⌝ }
+    ensures clear { λ r. ⌜ (holds (flags .bits) disambiguate ≡ true → Told Clear (mapped means r)) ⌝ }
+    ensures own { λ r. ⌜ ((c : ℕ) → Character-key (eventOf (key .entry)) c → Told (Own (base (now (layout .entry)))) (mapped means r)) ⌝ }
+{
+    first_said(layout, flags, key)
 }

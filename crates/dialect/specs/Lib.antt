@@ -1,0 +1,4 @@
+pub mod Endings
+pub mod KittyBytes
+pub mod Puts
+pub mod Streams

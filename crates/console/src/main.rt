@@ -2,11 +2,17 @@
 mod pass;
 mod show;
 
+use pass::PASS;
+use pass::Step;
 use std::io;
 
+fn run(rt: &LibcRuntime, steps: &[Step]) -> io::Result<()> {
+    for step in steps {
+        show::line(rt, step)?;
+    }
+    Ok(())
+}
+
 fn main(rt: LibcRuntime) -> io::Result<()> {
-    pass::named_keys(&rt)?;
-    pass::characters(&rt)?;
-    pass::keypad(&rt)?;
-    pass::refused(&rt)
+    run(&rt, &PASS)
 }

@@ -1,14 +1,13 @@
-// One event of the pass, and the line that is printed for it.
-use dialect::dialect::Dialect;
+// The line that is printed for a step of the pass.
+use crate::pass::Step;
+use crate::pass::event_of;
 use dialect::kitty::Kitty;
 use dialect::kitty::KittyDialect;
-use events::checking::check;
+use encoding::encode;
 use events::fault::Fault;
-use input_types::event::KeyEvent;
 use input_types::flags::KittyKeyboardFlags;
 use layout::us::Us;
 use layout::us::UsLayout;
-use rules::telling::tell;
 use std::io;
 
 // What is wrong with an event, in words.
@@ -19,6 +18,13 @@ fn meaning(fault: Fault) -> &'static str {
         Fault::NotText(_) => "not UTF-8 from that byte on",
         Fault::TooLong(_) => "more than 32 characters",
     }
+}
+
+fn refusal(rt: &LibcRuntime, fault: Fault) -> io::Result<()> {
+    let number = fault.number();
+    let place = fault.place();
+    let words = meaning(fault);
+    println!(rt, " refused {number} at {place}, {words}")
 }
 
 fn hex(rt: &LibcRuntime, bytes: &[u8]) -> io::Result<()> {
@@ -46,29 +52,28 @@ fn readable(rt: &LibcRuntime, bytes: &[u8]) -> io::Result<()> {
     Ok(())
 }
 
-// The bytes that an event sends under these settings on a US keyboard, or why it is refused.
-pub fn line(rt: &LibcRuntime, name: &str, bits: u16, event: &KeyEvent) -> io::Result<()> {
+fn sent(rt: &LibcRuntime, bytes: &[u8]) -> io::Result<()> {
+    if bytes.is_empty() {
+        return println!(rt, " silent");
+    }
+    hex(rt, bytes)?;
+    print!(rt, "  ")?;
+    readable(rt, bytes)?;
+    println!(rt, "")
+}
+
+// The bytes that an event sends under its settings on a US keyboard, or why it is refused.
+pub fn line(rt: &LibcRuntime, step: &Step) -> io::Result<()> {
+    let name = step.name;
+    let bits = step.flags;
     print!(rt, "{name}, flags {bits}:")?;
     let Some(flags) = KittyKeyboardFlags::from_bits(bits) else {
         return println!(rt, " no such settings");
     };
-    let key = match check(event) {
-        Ok(key) => key,
-        Err(fault) => {
-            let number = fault.number();
-            let place = fault.place();
-            let words = meaning(fault);
-            return println!(rt, " refused {number} at {place}, {words}");
-        }
-    };
-    let Some(report) = tell(&Us, flags, key) else {
-        return println!(rt, " silent");
-    };
+    let event = event_of(step);
     let mut out = [0u8; 512];
-    let count = Kitty.write(&report, &mut out);
-    let sent = &out[0..count];
-    hex(rt, sent)?;
-    print!(rt, "  ")?;
-    readable(rt, sent)?;
-    println!(rt, "")
+    match encode(&Us, &Kitty, flags, &event, &mut out) {
+        Ok(count) => sent(rt, &out[0..count]),
+        Err(fault) => refusal(rt, fault),
+    }
 }

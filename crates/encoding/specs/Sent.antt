@@ -2,7 +2,7 @@
 use mathlib.Core.Path.{_≡_}
 use mathlib.Core.Bool.{true}
 use mathlib.Core.List.{List, [], _++_}
-use Prim.Native.Nat.{ℕ}
+use Prim.Native.Nat.{ℕ, _≤_}
 use lib.ListN.{length, drop}
 use Rattle.std.specs.declared.option.Option.{Option}
 use Rattle.std.specs.declared.option.Option.the-variants.{Some, None}
@@ -24,6 +24,7 @@ sent base bytes flags e = bytesTold bytes (tells base flags e)
 pub record Sends (base : ℕ → ℕ) (bytes : Meaning → List ℕ) (flags : ℕ) (e : PlainEvent) (n : ℕ) (before after : List ℕ) : Type 0 where
   pub passed : faultless e ≡ true
   pub count : n ≡ length (sent base bytes flags e)
+  pub within : n ≤ 512
   pub row : after ≡ sent base bytes flags e ++ drop n before
 
 -- the event's first fault is f, and the row is as it was

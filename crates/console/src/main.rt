@@ -2,7 +2,11 @@
 mod pass;
 mod show;
 
-use pass::PASS;
+use pass::CHARACTERS;
+use pass::EDITING;
+use pass::KEYPAD;
+use pass::NAMED;
+use pass::REFUSED;
 use pass::Step;
 use std::io;
 
@@ -13,6 +17,30 @@ fn run(rt: &LibcRuntime, steps: &[Step]) -> io::Result<()> {
     Ok(())
 }
 
+fn named_keys(rt: &LibcRuntime) -> io::Result<()> {
+    run(rt, &NAMED)
+}
+
+fn editing_keys(rt: &LibcRuntime) -> io::Result<()> {
+    run(rt, &EDITING)
+}
+
+fn character_keys(rt: &LibcRuntime) -> io::Result<()> {
+    run(rt, &CHARACTERS)
+}
+
+fn keypad_keys(rt: &LibcRuntime) -> io::Result<()> {
+    run(rt, &KEYPAD)
+}
+
+fn refused_keys(rt: &LibcRuntime) -> io::Result<()> {
+    run(rt, &REFUSED)
+}
+
 fn main(rt: LibcRuntime) -> io::Result<()> {
-    run(&rt, &PASS)
+    named_keys(&rt)?;
+    editing_keys(&rt)?;
+    character_keys(&rt)?;
+    keypad_keys(&rt)?;
+    refused_keys(&rt)
 }

@@ -36,7 +36,8 @@ const PRESS: Step = Step {
     raw: None,
 };
 
-pub const PASS: [Step; 32] = [
+// Keys with a name of their own.
+pub const NAMED: [Step; 6] = [
     Step {
         name: "F5",
         flags: 1,
@@ -78,6 +79,10 @@ pub const PASS: [Step; 32] = [
         key: KeyCode::Char('\u{1b}'),
         ..PRESS
     },
+];
+
+// Editing keys, and keys by their place.
+pub const EDITING: [Step; 6] = [
     Step {
         name: "Delete",
         flags: 0,
@@ -126,6 +131,10 @@ pub const PASS: [Step; 32] = [
         }),
         ..PRESS
     },
+];
+
+// Character keys.
+pub const CHARACTERS: [Step; 9] = [
     Step {
         name: "a",
         flags: 0,
@@ -197,6 +206,10 @@ pub const PASS: [Step; 32] = [
         key: KeyCode::Char('é'),
         ..PRESS
     },
+];
+
+// The keypad, and composed text.
+pub const KEYPAD: [Step; 4] = [
     Step {
         name: "Numpad5",
         flags: 0,
@@ -228,6 +241,10 @@ pub const PASS: [Step; 32] = [
         }),
         ..PRESS
     },
+];
+
+// Events at a limit, and those past one.
+pub const REFUSED: [Step; 7] = [
     Step {
         name: "U+E000",
         flags: 1,

@@ -53,7 +53,7 @@ impl<'a> Checked<'a> {
     {
         match &self.event.raw {
             Some(raw) => raw.modifiers,
-            None => self.event.modifiers,
+            None => self.modifiers(),
         }
     }
 
@@ -61,13 +61,13 @@ impl<'a> Checked<'a> {
     pub fn modifier_sum(self) -> u8
         ensures { λ r. ⌜ r ≡ sum (eventOf (self .entry)) ⌝ }
     {
-        self.reported_modifiers().kitty_sum(self.event.leds)
+        self.reported_modifiers().kitty_sum(self.leds())
     }
 
     pub fn told_direction(self) -> Direction
         ensures { λ r. ⌜ r ≡ direction (eventOf (self .entry)) ⌝ }
     {
-        if self.event.key_is_down {
+        if self.is_down() {
             Direction::Press
         } else {
             Direction::Release

@@ -105,11 +105,11 @@ impl KeyboardLedStatus {
 
     pub const NUM_LOCK: KeyboardLedStatus = KeyboardLedStatus { bits: 1 << 2 };
 
-    // Whether all lights of the other are among these.
-    pub fn contains(self, other: KeyboardLedStatus) -> bool
-        ensures { λ r. ⌜ r ≡ holds (self .bits) (other .bits) ⌝ }
+    // Whether all these lights are on.
+    pub fn contains(self, lights: KeyboardLedStatus) -> bool
+        ensures { λ r. ⌜ r ≡ holds (self .bits) (lights .bits) ⌝ }
     {
-        self.bits & other.bits == other.bits
+        self.bits & lights.bits == lights.bits
     }
 
     // Whether every bit has a name.

@@ -1,3 +1,4 @@
+pub mod Beginnings
 pub mod Fronts
 pub mod Onlys
 pub mod Places

@@ -2,7 +2,7 @@
 use mathlib.Core.Bool.{Bool, cond, not, _&&_}
 use mathlib.Core.List.{List, [], _∷_}
 use Prim.Native.Nat.{ℕ, zero, suc, _+_}
-use lib.Dec.{leb}
+use lib.Dec.{eqb, leb}
 use lib.ListN.{take}
 use lib.Utf8.{scalars, encodes}
 use Rattle.std.specs.Text.{width}
@@ -22,6 +22,12 @@ front (suc n) bs = cond (utf8 (take (suc n) bs)) (suc n) (front n bs)
 -- a key is any character outside U+E000 to U+F8FF
 abbrev pub allowed : ℕ → Bool
 allowed c = not (leb 57344 c && leb c 63743)
+
+-- what follows a beginning of the text
+abbrev pub follows : List ℕ → List ℕ → Option (List ℕ)
+follows [] s = Some s
+follows (b ∷ bs) [] = None
+follows (b ∷ bs) (x ∷ xs) = cond (eqb b x) (follows bs xs) None
 
 -- the character of a text that has just one
 abbrev pub only : List ℕ → Option ℕ

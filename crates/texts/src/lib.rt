@@ -2,9 +2,10 @@
 ghost use mathlib.Core.Path.{_≡_};
 ghost use mathlib.Core.Bool.{true, false};
 ghost use lib.ListN.{length};
+ghost use Rattle.std.specs.Options.{mapped};
 ghost use Rattle.std.specs.Results.{Cases};
 ghost use Rattle.std.specs.shelf.Text.{decodes};
-ghost use Rattle.texts.specs.Texts.{utf8, front, allowed, only, placeAfter};
+ghost use Rattle.texts.specs.Texts.{utf8, front, allowed, follows, only, placeAfter};
 
 // Bytes that are no UTF-8, and how many of them are before the first that is wrong.
 #[derive(Clone, Copy)]
@@ -29,6 +30,13 @@ pub fn is_allowed(c: char) -> bool
     ensures { λ r. ⌜ r ≡ allowed c ⌝ }
 {
     c < '\u{e000}' || '\u{f8ff}' < c
+}
+
+// What follows a beginning of the text.
+pub fn after<'a>(text: &'a str, beginning: &str) -> Option<&'a str>
+    ensures { λ r. ⌜ mapped (λ x. now x) r ≡ follows (now (beginning .entry)) (now (text .entry)) ⌝ }
+{
+    text.strip_prefix(beginning)
 }
 
 // The character of a text that has just one.

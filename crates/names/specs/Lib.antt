@@ -1,0 +1,4 @@
+pub mod KeyTable
+pub mod PhysTable
+pub mod Reads
+pub mod Refusals

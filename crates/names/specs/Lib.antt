@@ -1,3 +1,4 @@
+pub mod Composed
 pub mod KeyTable
 pub mod PhysTable
 pub mod Reads

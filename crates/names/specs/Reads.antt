@@ -31,10 +31,11 @@ abbrev pub orElse : {A : Type 0} → NameFault → Option A → Result A NameFau
 orElse fault None = Err fault
 orElse fault (Some x) = Ok x
 
-abbrev charKey : ℕ → Result KeyCode NameFault
+-- the key of a character, where that is allowed
+abbrev pub charKey : ℕ → Result KeyCode NameFault
 charKey c = cond (allowed c) (Ok (K.Char c)) (Err NotAllowed)
 
--- the key of a text's only character, where that is allowed
+-- the key of a text's only character
 abbrev pub single : List ℕ → Result KeyCode NameFault
 single cs = valueOr (mapped charKey (only cs)) (Err (Unknown 0))
 

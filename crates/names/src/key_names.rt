@@ -3,7 +3,7 @@ ghost use mathlib.Core.Path.{_≡_};
 ghost use Rattle.std.specs.shelf.Text.{decodes};
 ghost use Rattle.tables.specs.Tables.{bears, Table};
 ghost use Rattle.names.specs.KeyTable.{keys};
-ghost use Rattle.names.specs.Reads.{ofText, keyNamed, single};
+ghost use Rattle.names.specs.Reads.{ofText, charKey, keyNamed, single};
 use crate::fault::NameFault;
 use crate::fault::NameFaultFromNumber;
 use crate::fault::NameFaultFromText;
@@ -102,16 +102,22 @@ fn key_in_table(name: &str) -> Option<KeyCode<'static>>
     find(&KEY_NAMES, name)
 }
 
-// The key of a text's only character.
+// The key of a character.
+pub(crate) fn char_key(c: char) -> Result<KeyCode<'static>, NameFault>
+    ensures { λ r. ⌜ r ≡ charKey c ⌝ }
+{
+    if is_allowed(c) {
+        Ok(KeyCode::Char(c))
+    } else {
+        Err(NameFault::NotAllowed)
+    }
+}
+
 fn single_char(name: &str) -> Result<KeyCode<'static>, NameFault>
     ensures { λ r. ⌜ r ≡ single (decodes (now (name .entry))) ⌝ }
 {
     match only_char(name) {
-        Some(c) => if is_allowed(c) {
-            Ok(KeyCode::Char(c))
-        } else {
-            Err(NameFault::NotAllowed)
-        },
+        Some(c) => char_key(c),
         None => Err(NameFault::Unknown(0)),
     }
 }

@@ -2,3 +2,4 @@ pub mod Beginnings
 pub mod Fronts
 pub mod Onlys
 pub mod Places
+pub mod Trims

@@ -1,11 +1,12 @@
 -- Which bytes are text, which characters are keys, and the places of characters.
 use mathlib.Core.Bool.{Bool, cond, not, _&&_}
-use mathlib.Core.List.{List, [], _∷_}
+use mathlib.Core.List.{List, [], _∷_, reverse}
 use Prim.Native.Nat.{ℕ, zero, suc, _+_}
 use lib.Dec.{eqb, leb}
 use lib.ListN.{take}
 use lib.Utf8.{scalars, encodes}
 use Rattle.std.specs.Text.{width}
+use Rattle.std.specs.Words.{white}
 use Rattle.std.specs.shelf.Text.{decodes, sameBytes}
 use Rattle.std.specs.declared.option.Option.{Option}
 use Rattle.std.specs.declared.option.Option.the-variants.{Some, None}
@@ -40,3 +41,17 @@ abbrev pub placeAfter : ℕ → ℕ → List ℕ → Option ℕ
 placeAfter at n [] = None
 placeAfter at zero (c ∷ cs) = Some at
 placeAfter at (suc n) (c ∷ cs) = placeAfter (at + width c) n cs
+
+-- how many bytes of white space characters begin with
+abbrev pub blank : List ℕ → ℕ
+blank [] = 0
+blank (c ∷ cs) = cond (white c) (width c + blank cs) 0
+
+-- characters without the white space that they begin with
+abbrev pub bare : List ℕ → List ℕ
+bare [] = []
+bare (c ∷ cs) = cond (white c) (bare cs) (c ∷ cs)
+
+-- a text without the white space around it
+unfoldable pub trim : List ℕ → List ℕ
+trim s = encodes (reverse (bare (reverse (bare (decodes s)))))

@@ -1,11 +1,12 @@
 // Bytes that are text, its characters and their places.
 ghost use mathlib.Core.Path.{_≡_};
 ghost use mathlib.Core.Bool.{true, false};
+ghost use Prim.Native.Nat.{_≤_};
 ghost use lib.ListN.{length};
 ghost use Rattle.std.specs.Options.{mapped};
 ghost use Rattle.std.specs.Results.{Cases};
 ghost use Rattle.std.specs.shelf.Text.{decodes};
-ghost use Rattle.texts.specs.Texts.{utf8, front, allowed, follows, only, placeAfter};
+ghost use Rattle.texts.specs.Texts.{utf8, front, allowed, blank, follows, only, placeAfter, trim};
 
 // Bytes that are no UTF-8, and how many of them are before the first that is wrong.
 #[derive(Clone, Copy)]
@@ -63,4 +64,14 @@ pub fn char_past(text: &str, limit: u8) -> Option<usize>
         left -= 1;
     }
     None
+}
+
+// The text without the white space around it, and how many bytes of white space stand before it.
+pub fn trimmed(text: &str) -> (&str, usize)
+    ensures word { λ r. ⌜ now (r .0) ≡ trim (now (text .entry)) ⌝ }
+    ensures place { λ r. ⌜ r .1 ≡ blank (decodes (now (text .entry))) ⌝ }
+    ensures bound { λ r. ⌜ r .1 ≤ length (now (text .entry)) ⌝ }
+{
+    let front = text.trim_start();
+    (front.trim_end(), text.len() - front.len())
 }

@@ -1,0 +1,2 @@
+// The names of modifiers and of keyboard lights.
+pub mod reading;

@@ -3,24 +3,29 @@ use mathlib.Core.Path.{_≡_, refl, sym, ap, _∙_}
 use mathlib.Core.Bool.{Bool, true, false, cond, not, _&&_, _||_}
 use mathlib.Core.Logic.{_⊎_, inl, inr, ⊎-elim}
 use mathlib.Core.List.{List, [], _∷_}
-use Prim.Native.Nat.{ℕ, _≤_}
+use Prim.Native.Nat.{ℕ, zero, suc, _+_, _≤_}
 use native.Mathlib.Omega.{arith}
 use lib.Dec.{leb}
 use lib.ListN.{length}
 use Rattle.std.specs.Options.{isSome}
-use Rattle.std.specs.Text.{Utf8}
+use Rattle.std.specs.Text.{Utf8, width}
 use Rattle.std.specs.shelf.Text.{decodes}
 use Rattle.std.proofs.shelf.Tests.{cases-bool, or-parts, not-false, leb-true}
 use Rattle.std.specs.declared.option.Option.{Option}
 use Rattle.std.specs.declared.option.Option.the-variants.{Some, None}
-use Rattle.layout.specs.Allowed.{private}
+use Rattle.texts.specs.Texts.{utf8, front, allowed as isKey, placeAfter}
 use Rattle.events.specs.Kinds.{PlainKind, character, composed, numpad, function, numbered, lettered, other}
 use Rattle.events.specs.Events.{PlainEvent, Fit}
 use Rattle.events.specs.declared.fault.Fault.{Fault}
 use Rattle.events.specs.declared.fault.Fault.the-variants.{NotAllowed, OutOfRange, NotText, TooLong}
-use Rattle.events.specs.Faults.{before, utf8, front, placeAfter, tooLong, textFault, charFault, rangeFault, composedFault, unnamed, partFault, rawFault, eventFault, faultless}
-use Rattle.events.proofs.Fronts.{utf8-decides}
-use Rattle.events.proofs.Places.{few}
+use Rattle.events.specs.Faults.{before, tooLong, textFault, charFault, rangeFault, composedFault, unnamed, partFault, rawFault, eventFault, faultless}
+use Rattle.texts.proofs.Fronts.{utf8-decides}
+
+-- where there is no such character, there are at most n
+few : (at n : ℕ) (cs : List ℕ) → placeAfter at n cs ≡ None → length cs ≤ n
+few at n [] h = omega arith
+few at zero (c ∷ cs) h = absurd (let z : _≡_ {A = ℕ} 0 1 = cc in omega arith)
+few at (suc n) (c ∷ cs) h = let r = few (at + width c) n cs h in omega arith
 
 some-none : {A : Type 0} (x : A) → Some x ≡ None → ⊥
 some-none x h = let z : _≡_ {A = ℕ} 0 1 = cc in omega arith
@@ -73,6 +78,6 @@ own-part e h = before-none (partFault (e .key .kind) (e .modifiers) (e .leds)) (
 pub fit : (e : PlainEvent) → faultless e ≡ true → Fit (e .key .kind)
 fit e h = part-fit (e .modifiers) (e .leds) (e .key .kind) (own-part e h)
 
--- the character of an event with no fault is no private code
-pub allowed : (e : PlainEvent) (c : ℕ) → faultless e ≡ true → e .key .kind ≡ character c → private c ≡ false
-allowed e c h k = let p = parts (e .modifiers) (e .leds) (e .key .kind) (own-part e h) .0 in rw k at p
+-- the character of an event with no fault is an allowed one
+pub allowed : (e : PlainEvent) (c : ℕ) → faultless e ≡ true → e .key .kind ≡ character c → isKey c ≡ true
+allowed e c h k = let p = parts (e .modifiers) (e .leds) (e .key .kind) (own-part e h) .0 in not-false (isKey c) (rw k at p)

@@ -1,17 +1,15 @@
 -- What is wrong with an event: the first fault of the event itself, or else of its raw event.
 use mathlib.Core.Bool.{Bool, true, false, cond, not, _&&_, _||_}
-use mathlib.Core.List.{List, [], _∷_}
-use Prim.Native.Nat.{ℕ, zero, suc, _+_}
+use mathlib.Core.List.{List}
+use Prim.Native.Nat.{ℕ}
 use lib.Dec.{leb}
-use lib.ListN.{length, take}
-use lib.Utf8.{scalars, encodes}
+use lib.ListN.{length}
 use Rattle.std.specs.Options.{isSome}
-use Rattle.std.specs.Text.{width}
-use Rattle.std.specs.shelf.Text.{decodes, sameBytes}
+use Rattle.std.specs.shelf.Text.{decodes}
 use Rattle.std.specs.declared.option.Option.{Option}
 use Rattle.std.specs.declared.option.Option.the-variants.{Some, None}
 use Rattle.input_types.specs.Bits.{namedModifiers, namedLights}
-use Rattle.layout.specs.Allowed.{private}
+use Rattle.texts.specs.Texts.{utf8, front, allowed, placeAfter}
 use Rattle.events.specs.Kinds.{PlainKind, character, composed, numpad, function, numbered, lettered, other}
 use Rattle.events.specs.Events.{PlainRaw, PlainEvent}
 use Rattle.events.specs.declared.fault.Fault.{Fault}
@@ -21,21 +19,6 @@ use Rattle.events.specs.declared.fault.Fault.the-variants.{NotAllowed, OutOfRa
 abbrev pub before : Option Fault → Option Fault → Option Fault
 before None o = o
 before (Some f) o = Some f
-
--- the bytes are the UTF-8 of the characters that they decode to
-abbrev pub utf8 : List ℕ → Bool
-utf8 bs = scalars (decodes bs) && sameBytes (encodes (decodes bs)) bs
-
--- how many bytes the longest front that is text has, of the first n
-abbrev pub front : ℕ → List ℕ → ℕ
-front zero bs = 0
-front (suc n) bs = cond (utf8 (take (suc n) bs)) (suc n) (front n bs)
-
--- the place in bytes of the character after the first n
-abbrev pub placeAfter : ℕ → ℕ → List ℕ → Option ℕ
-placeAfter at n [] = None
-placeAfter at zero (c ∷ cs) = Some at
-placeAfter at (suc n) (c ∷ cs) = placeAfter (at + width c) n cs
 
 abbrev pub tooLong : Option ℕ → Option Fault
 tooLong None = None
@@ -47,7 +30,7 @@ textFault bs = cond (utf8 bs) (tooLong (placeAfter 0 32 (decodes bs))) (Some (No
 
 -- a character is none of those that stand for other keys
 abbrev pub charFault : PlainKind → Bool
-charFault (character c) = private c
+charFault (character c) = not (allowed c)
 charFault (composed bs) = false
 charFault (numpad n) = false
 charFault (function n) = false

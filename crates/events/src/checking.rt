@@ -2,11 +2,9 @@
 ghost use mathlib.Core.Path.{_≡_};
 ghost use Rattle.std.specs.Results.{Cases};
 ghost use Rattle.std.specs.declared.option.Option.the-variants.{Some as Just, None as Nothing};
-ghost use Rattle.std.specs.shelf.Text.{decodes};
-ghost use Rattle.layout.specs.Allowed.{private};
 ghost use Rattle.events.specs.Kinds.{plainKind};
 ghost use Rattle.events.specs.Events.{plainEvent};
-ghost use Rattle.events.specs.Faults.{placeAfter, textFault, unnamed, partFault, eventFault};
+ghost use Rattle.events.specs.Faults.{textFault, unnamed, partFault, eventFault};
 ghost use Rattle.events.specs.Checks.{bytesOf};
 use crate::checked::Checked;
 use crate::fault::Fault;
@@ -15,37 +13,20 @@ use crate::kind::kind_of;
 use input_types::event::KeyEvent;
 use input_types::modifiers::KeyboardLedStatus;
 use input_types::modifiers::Modifiers;
-
-// The place of the character after the first 32.
-fn past_limit(text: &str) -> Option<usize>
-    ensures { λ r. ⌜ r ≡ placeAfter 0 32 (decodes (now (text .entry))) ⌝ }
-{
-    let mut left: u8 = 32;
-    for (i, _c) in text.char_indices() {
-        if left == 0 {
-            return Some(i);
-        }
-        left -= 1;
-    }
-    None
-}
+use texts::char_past;
+use texts::checked;
+use texts::is_allowed;
 
 fn check_text(bytes: &[u8]) -> Result<&str, Fault>
     ensures { λ r. ⌜ Cases r (λ t. (now t ≡ now (bytes .entry)) × (textFault (now (bytes .entry)) ≡ Nothing)) (λ f. textFault (now (bytes .entry)) ≡ Just f) ⌝ }
 {
-    match std::str::from_utf8(bytes) {
-        Ok(text) => match past_limit(text) {
+    match checked(bytes) {
+        Ok(text) => match char_past(text, 32) {
             Some(place) => Err(Fault::TooLong(place)),
             None => Ok(text),
         },
-        Err(fault) => Err(Fault::NotText(fault.valid_up_to())),
+        Err(fault) => Err(Fault::NotText(fault.place)),
     }
-}
-
-fn is_private(c: char) -> bool
-    ensures { λ r. ⌜ r ≡ private c ⌝ }
-{
-    '\u{e000}' <= c && c <= '\u{f8ff}'
 }
 
 fn is_unnamed(modifiers: Modifiers, leds: KeyboardLedStatus) -> bool
@@ -64,7 +45,7 @@ fn check_part<'a>(
 {
     let unnamed = is_unnamed(modifiers, leds);
     match kind {
-        Kind::Char(c) if is_private(c) => Err(Fault::NotAllowed),
+        Kind::Char(c) if !is_allowed(c) => Err(Fault::NotAllowed),
         Kind::Numpad(n) if n > 9 => Err(Fault::OutOfRange),
         Kind::Function(n) if n < 1 || n > 35 => Err(Fault::OutOfRange),
         _ if unnamed => Err(Fault::OutOfRange),

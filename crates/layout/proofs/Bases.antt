@@ -8,7 +8,7 @@ use borrow.Author.Needs.{needs}
 use lib.Dec.{eqb, leb, ltb}
 use Rattle.std.proofs.shelf.Tests.{lt-leb}
 use Rattle.std.proofs.shelf.Ways.{tells, decides-below-and, decides-and, decides-eqb, decides-ltb}
-use Rattle.layout.specs.Allowed.{private}
+use Rattle.texts.specs.Texts.{allowed}
 use Rattle.layout.specs.Unshifted.{baseOf, Rests, Kept}
 
 -- the codes below n have a base that is its own base and is no private code
@@ -35,4 +35,4 @@ rests c = ⊎-elim (λ h. low c h .0) (λ h. ap baseOf (high c h)) (split c)
 
 pub kept : Kept
 kept c ok =
-    ⊎-elim (λ h. let l = low c h .1 in let e = lt-leb 57344 (baseOf c) l in rw e refl) (λ h. subst (λ x. private x ≡ false) (sym (high c h)) ok) (split c)
+    ⊎-elim (λ h. let l = low c h .1 in let e = lt-leb 57344 (baseOf c) l in rw e refl) (λ h. subst (λ x. allowed x ≡ true) (sym (high c h)) ok) (split c)

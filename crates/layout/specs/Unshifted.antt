@@ -5,7 +5,7 @@ use mathlib.Core.Bool.{Bool, true, false, cond, _&&_}
 use Prim.Native.Nat.{ℕ, _+_, _%_, _≤_, _<_}
 use lib.Dec.{eqb, leb}
 use Rattle.std.specs.Options.{valueOr}
-use Rattle.layout.specs.Allowed.{private}
+use Rattle.texts.specs.Texts.{allowed}
 use Rattle.tables.specs.Tables.{beside}
 
 -- A run of capitals: every code from the first to the last, or every second one, with the distance to its lower-case form.
@@ -42,4 +42,4 @@ abbrev pub Rests : Type 0
 Rests = (c : ℕ) → baseOf (baseOf c) ≡ baseOf c
 
 abbrev pub Kept : Type 0
-Kept = (c : ℕ) → private c ≡ false → private (baseOf c) ≡ false
+Kept = (c : ℕ) → allowed c ≡ true → allowed (baseOf c) ≡ true

@@ -1,8 +1,8 @@
 // A layout gives each character the one that its key gives without Shift.
 ghost use mathlib.Core.Path.{_≡_};
-ghost use mathlib.Core.Bool.{false};
+ghost use mathlib.Core.Bool.{true};
 ghost use Prim.Native.Nat.{ℕ};
-ghost use Rattle.layout.specs.Allowed.{private};
+ghost use Rattle.texts.specs.Texts.{allowed};
 
 pub mod bare;
 pub mod us;
@@ -15,7 +15,7 @@ pub trait Layout {
     law settled: { (l : Self) (c : ℕ) → base l (base l c) ≡ base l c };
 
     // No allowed character has a base that stands for another key.
-    law kept: { (l : Self) (c : ℕ) → private c ≡ false → private (base l c) ≡ false };
+    law kept: { (l : Self) (c : ℕ) → allowed c ≡ true → allowed (base l c) ≡ true };
 
     fn base_of(&self, c: char) -> char
         ensures { λ r. ⌜ r ≡ base (now (self .entry)) c ⌝ };

@@ -10,7 +10,7 @@ use Rattle.std.specs.declared.option.Option.the-variants.{Some, None}
 use Rattle.report.specs.declared.ending.Last.the-variants.{Tilde}
 use Rattle.report.specs.Meanings.{Meaning, text, old, answer, sequence}
 use Rattle.input_types.specs.Bits.{holds}
-use Rattle.layout.specs.Allowed.{private}
+use Rattle.texts.specs.Texts.{allowed as isKey}
 use Rattle.events.specs.Kinds.{PlainKind, character}
 use Rattle.events.specs.Events.{PlainEvent, guess}
 use Rattle.events.proofs.Fits.{allowed}
@@ -28,9 +28,9 @@ module _ (P : Meaning → Type 0) (flags : ℕ) (e : PlainEvent) (k : PlainKind)
       (then P (texts flags (e .down) (e .modifiers) k) (keypad (holds (e .leds) 4) (guess e) s) t (subst (λ x. Says P (padTells x s)) (sym o) tt))
 
 module _ (base : ℕ → ℕ) (laws : Lawful base) where
-  module _ (flags : ℕ) (e : PlainEvent) (c : ℕ) (s : PlainStroke) (ok : private c ≡ false) (not-delete : c ≡ 127 → ⊥) where
-    erased-ok : private (erased c) ≡ false
-    erased-ok = cond-both (eqb c 8) 127 c (λ x. private x ≡ false) (λ _. refl) (λ _. ok)
+  module _ (flags : ℕ) (e : PlainEvent) (c : ℕ) (s : PlainStroke) (ok : isKey c ≡ true) (not-delete : c ≡ 127 → ⊥) where
+    erased-ok : isKey (erased c) ≡ true
+    erased-ok = cond-both (eqb c 8) 127 c (λ x. isKey x ≡ true) (λ _. refl) (λ _. ok)
 
     old-own : Own base (oldForm (e .modifiers) c)
     old-own = cond-both (holds (e .modifiers) 4) (old (cond (holds (e .modifiers) 8) (controlled c) c)) (text (cond (holds (e .modifiers) 8) (controlled c) c)) (Own base) (λ _. tt) (λ _. tt)

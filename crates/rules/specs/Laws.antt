@@ -1,6 +1,6 @@
 -- The laws of what is told.
 use mathlib.Core.Path.{_≡_}
-use mathlib.Core.Bool.{true, false}
+use mathlib.Core.Bool.{true}
 use mathlib.Core.Logic.{_⊎_}
 use Prim.Native.Nat.{ℕ, _≤_}
 use Rattle.std.specs.declared.option.Option.{Option}
@@ -10,7 +10,7 @@ use Rattle.report.specs.declared.ending.Last.the-variants.{U, Tilde, Up, Down, 
 use Rattle.report.specs.Meanings.{Meaning, Fields, Clear, text, old, answer, sequence}
 use Rattle.input_types.specs.Bits.{holds, disambiguate, num-lock}
 use Rattle.input_types.specs.declared.event.KeyEvent.{KeyEvent}
-use Rattle.layout.specs.Allowed.{private}
+use Rattle.texts.specs.Texts.{allowed}
 use Rattle.events.specs.Kinds.{PlainKind, kindOf, character, composed, numpad, function, numbered, lettered, other}
 use Rattle.events.specs.Events.{PlainEvent, plainEvent, sum, direction, guess}
 use Rattle.events.specs.Faults.{faultless}
@@ -36,14 +36,14 @@ Character-key e c = (e .key .kind ≡ character c) × (c ≡ 127 → ⊥) × Off
 -- a layout's two laws
 pub record Lawful (base : ℕ → ℕ) : Type 0 where
   pub settled : (c : ℕ) → base (base c) ≡ base c
-  pub kept : (c : ℕ) → private c ≡ false → private (base c) ≡ false
+  pub kept : (c : ℕ) → allowed c ≡ true → allowed (base c) ≡ true
 
 -- the number of a sequence is one that the layout leaves alone, and no code that stands for another key
 abbrev pub Own : (ℕ → ℕ) → Meaning → Type 0
 Own base (text c) = Unit {0}
 Own base (old c) = Unit {0}
 Own base (answer n) = Unit {0}
-Own base (sequence f) = (base (f .number) ≡ f .number) × (private (f .number) ≡ false)
+Own base (sequence f) = (base (f .number) ≡ f .number) × (allowed (f .number) ≡ true)
 
 -- A character key tells its own number.
 abbrev pub Own-number : Type 0

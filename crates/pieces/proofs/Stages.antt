@@ -9,15 +9,22 @@ use lib.ListN.{length, length-append}
 use Rattle.std.specs.Text.{asciiDigit}
 use Rattle.std.specs.declared.option.Option.{Option}
 use Rattle.std.specs.declared.option.Option.the-variants.{Some, None}
+use Rattle.std.specs.Results.{ErrBy}
+use Rattle.std.specs.declared.result.Result.{Result}
+use Rattle.std.specs.declared.result.Result.the-variants.{Ok, Err}
 use Rattle.std.proofs.shelf.Lists.{append-nil, append-assoc}
 use Rattle.report.specs.Meanings.{Coded}
 use Rattle.dialect.specs.KittyBytes.{optional}
 use Rattle.dialect.proofs.Numbers.{optional-same}
 use Rattle.dialect.proofs.StreamLaws.{fronts}
+use Rattle.pieces.specs.declared.found.Ended.{Ended}
+use Rattle.pieces.specs.declared.found.Fault.{Fault}
+use Rattle.pieces.specs.declared.found.Fault.the-variants.{Unknown}
 use Rattle.pieces.specs.declared.found.Range.{Range}
 use Rattle.pieces.specs.Languages.{Takes, part}
-use Rattle.pieces.specs.Runs.{Run, Runs, Within}
-use Rattle.pieces.proofs.Chains.{Chain}
+use Rattle.pieces.specs.Runs.{Run, Runs, Within, Ends, runOf}
+use Rattle.pieces.specs.Says.{Says}
+use Rattle.pieces.proofs.Chains.{Chain, chain-break, chain-on, chain-stop}
 use Rattle.pieces.proofs.DigitLaws.{most-fits}
 
 within-coded : (range : Range) (o : Option ℕ) → Within range o → Coded o
@@ -73,3 +80,19 @@ module _ {M : Type 0} {range : Range} {L : List ℕ → M → Type 0} {Next : Op
     join = λ m r p t x i. subst (λ z. L z m) (sym (ap (λ z. z ++ t) (x .2) ∙ append-assoc (optional (r .value)) (r .mark ∷ []) t)) (k .join m (r .value) (r .mark) t (x .0) i);
     starts = stage-starts;
   }
+
+  -- the same for the results of readers
+  module _ {R : Type 0} (value : R → M) (after : R → ℕ) (given : List ℕ) (at : ℕ) where
+    pub stage-break : (r : Result R Fault) (e : Fault) → ErrBy r (λ x. x ≡ e) → Ends range given at (Err e) → Says L value after given at r
+    stage-break = chain-break staged runOf (λ e. e .next) value after given at
+
+    module _ (e : Ended) (p : Ends range given at (Ok e)) where
+      -- a number and a byte, after which another reader goes on
+      pub stage-goes : (o : Option ℕ) (b : ℕ) → e .value ≡ o → e .mark ≡ b → (r : Result R Fault) → Says (Next o b) value after given (e .next) r → Says L value after given at r
+      unfolding run
+      stage-goes o b f g = chain-on staged runOf (λ e. e .next) value after given at e p (run o b) (cc (f, g))
+
+      -- a number and a byte, after which no message goes on
+      pub stage-stops : (o : Option ℕ) → e .value ≡ o → ((m : M) (s : List ℕ) → Next o (e .mark) s m → ⊥) → Says L value after given at (Err Unknown)
+      unfolding run
+      stage-stops o f h = chain-stop staged runOf (λ e. e .next) value after given at e p (run o (e .mark)) (cc (f)) h

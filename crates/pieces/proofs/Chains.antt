@@ -1,5 +1,5 @@
 -- A piece that tells its own end, and what follows it: exact readers of both make an exact reader of the whole.
-use mathlib.Core.Path.{_≡_, sym, ap, _∙_, subst}
+use mathlib.Core.Path.{_≡_, refl, sym, ap, _∙_, subst}
 use mathlib.Core.List.{List, _++_}
 use Prim.Native.Nat.{ℕ, _≤_, _<_}
 use native.Mathlib.Omega.{arith}
@@ -95,3 +95,24 @@ embeds {A = A} K L f p given to from nothing q = λ m s t u i e. only s (from m 
   where
     only : (s : List ℕ) → (a : A) × (r : List ℕ) × K r a × (s ≡ p ++ r) → (t u : List ℕ) → s ++ t ≡ (p ++ given) ++ u → ⊥
     only s v t u e = q (v .0) (v .1) t u (v .2) (append-cancel-left p (v .1 ++ t) (given ++ u) (sym (append-assoc p (v .1) t) ∙ ap (λ y. y ++ t) (sym (v .3)) ∙ e ∙ append-assoc p given u))
+
+-- the same for the results of readers
+module _ {A M P R : Type 0} (K : List ℕ → A → Type 0) (L : List ℕ → M → Type 0) (f : A → M) (p given : List ℕ) (at n : ℕ) (split : drop at given ≡ p ++ drop n given) (to : (a : A) (s : List ℕ) → K s a → L (p ++ s) (f a)) (from : (m : M) (s t u : List ℕ) → L s m → s ++ t ≡ p ++ (drop n given ++ u) → (a : A) × (r : List ℕ) × K r a × (s ≡ p ++ r)) (piece : P → A) (place : P → ℕ) (value : R → M) (after : R → ℕ) where
+  embeds-at : (x : Taken A) → Takes K (drop n given) x → Takes L (drop at given) (mapped f x)
+  embeds-at x q = subst (λ g. Takes L g (mapped f x)) (sym split) (embeds K L f p (drop n given) to from x q)
+
+  pub embeds-break : (r : Result R Fault) (e : Fault) → ErrBy r (λ x. x ≡ e) → Says K piece place given n (Err e) → Says L value after given at r
+  embeds-break (Ok a) e i q = absurd i
+  embeds-break (Err x) e i q = subst (λ y. Says L value after given at (Err y)) (sym i) (go e q)
+    where
+      go : (e : Fault) → Says K piece place given n (Err e) → Says L value after given at (Err e)
+      go Short q = embeds-at part q
+      go Unknown q = embeds-at nothing q
+
+  pub embeds-whole : (x : P) (y : R) → value y ≡ f (piece x) → after y ≡ place x → Says K piece place given n (Ok x) → Says L value after given at (Ok y)
+  embeds-whole x y v a q = (subst (λ m. Takes L (drop at given) (whole m (drop (after y) given))) (sym v) (subst (λ k. Takes L (drop at given) (whole (f (piece x)) (drop k given))) (sym a) (embeds-at (whole (piece x) (drop (place x) given)) (q .0))), subst (λ k. k ≤ length given) (sym a) (q .1))
+
+-- a language within another whose messages are the same
+pub embeds-same : {M R : Type 0} (K L : List ℕ → M → Type 0) (p given : List ℕ) (at n : ℕ) → drop at given ≡ p ++ drop n given → ((m : M) (s : List ℕ) → K s m → L (p ++ s) m) → ((m : M) (s t u : List ℕ) → L s m → s ++ t ≡ p ++ (drop n given ++ u) → (a : M) × (r : List ℕ) × K r a × (s ≡ p ++ r)) → (value : R → M) (after : R → ℕ) (r : Result R Fault) → Says K value after given n r → Says L value after given at r
+embeds-same K L p given at n split to from value after (Ok x) q = embeds-whole K L (λ m. m) p given at n split to from value after value after x x refl refl q
+embeds-same K L p given at n split to from value after (Err e) q = embeds-break K L (λ m. m) p given at n split to from value after value after (Err e) e refl q

@@ -69,3 +69,14 @@ last-stops Left = refl
 last-stops Begin = refl
 last-stops End = refl
 last-stops Home = refl
+
+pub last-byte : (l : Last) → lastByte l ≤ 255
+last-byte U = omega arith
+last-byte Tilde = omega arith
+last-byte Up = omega arith
+last-byte Down = omega arith
+last-byte Right = omega arith
+last-byte Left = omega arith
+last-byte Begin = omega arith
+last-byte End = omega arith
+last-byte Home = omega arith

@@ -23,7 +23,7 @@ Stops [] = Unit {0}
 Stops (b ∷ bs) = asciiDigit b ≡ false
 
 -- a digit is where none should be
-clash : (x : ℕ) (xs t : List ℕ) → Stops t → allDigits (x ∷ xs) ≡ true → (u : List ℕ) → t ≡ x ∷ u → ⊥
+pub clash : (x : ℕ) (xs t : List ℕ) → Stops t → allDigits (x ∷ xs) ≡ true → (u : List ℕ) → t ≡ x ∷ u → ⊥
 clash x xs t st d u e =
     let a = and-parts (asciiDigit x) (allDigits xs) d .0 in
     both-ways (asciiDigit x) (subst Stops e st) a

@@ -23,7 +23,7 @@ use report::text::Text;
 pub struct Kitty;
 
 // Whether the sequence has the short form, ESC [ E.
-fn is_plain(s: &Sequence) -> bool
+pub fn is_plain(s: &Sequence) -> bool
     ensures { λ r. ⌜ r ≡ plain (fields (now (s .entry))) ⌝ }
 {
     s.number == 1 && is_begin(s.last) && is_press(s.direction) && s.sum == 0

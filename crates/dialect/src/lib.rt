@@ -2,5 +2,5 @@
 pub mod dialect;
 pub mod endings;
 pub mod kitty;
-mod pen;
+pub mod pen;
 pub mod streams;

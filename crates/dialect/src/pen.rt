@@ -5,7 +5,7 @@ ghost use Prim.Native.Nat.{_+_, _≤_, _<_};
 ghost use lib.ListN.{length};
 ghost use lib.Utf8.{encode};
 ghost use Rattle.std.specs.Written.{decimal};
-ghost use Rattle.dialect.specs.Puts.{Wrote};
+ghost use Rattle.dialect.specs.Puts.{Wrote, Put};
 
 pub(crate) fn put_byte(out: &mut [u8; 512], at: usize, b: u8) -> usize
     requires { ⌜ at < 512 ⌝ }
@@ -15,10 +15,13 @@ pub(crate) fn put_byte(out: &mut [u8; 512], at: usize, b: u8) -> usize
     at + 1
 }
 
-pub(crate) fn put_bytes(out: &mut [u8; 512], at: usize, bytes: &[u8]) -> usize
-    requires { ⌜ at + length (now bytes) ≤ 512 ⌝ }
-    ensures { λ r. ⌜ Wrote (now (out .entry)) at (now (bytes .entry)) (now (out .exit)) r ⌝ }
+// Where the bytes would pass the end, none is put, and the place stays.
+pub fn put_bytes(out: &mut [u8; 512], at: usize, bytes: &[u8]) -> usize
+    ensures { λ r. ⌜ Put (now (out .entry)) at (now (bytes .entry)) (now (out .exit)) r ⌝ }
 {
+    if 512 < at || 512 - at < bytes.len() {
+        return at;
+    }
     let mut next = at;
     for b in bytes {
         next = put_byte(out, next, *b);

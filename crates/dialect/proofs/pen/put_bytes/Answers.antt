@@ -11,4 +11,4 @@ loop-b-again c =
     (omega (arith, c .put-byte-next .ensures .place, c .loop-b .inv .0), wrote-as (sym (take-more bs i 0 (omega arith))) (wrote-more (c .loop-b .inv .1) (c .put-byte-next .ensures)))
 
 pub returns : need.returns
-returns c = wrote-as (take-all (c .loop-b .b-index) (c .args .bytes .now) (omega arith)) (c .loop-b .inv .1)
+returns c = record { fits = λ h. wrote-as (take-all (c .loop-b .b-index) (c .args .bytes .now) (omega arith)) (c .loop-b .inv .1); passes = λ h. absurd (omega arith) }

@@ -27,7 +27,7 @@ pub returns-in-Old : need.returns-in-Old
 returns-in-Old c = whole (means (c .args .report .now)) _ _ _ _ (valid (c .args .report .now)) (c .told-out) (ap (λ r. kittyBytes (means r)) (c .in-Old .is) ∙ ap (λ x. 27 ∷ encode x) (sym (c .code-in-Old .ensures))) (wrote-more (c .put-byte-at .ensures) (c .put-char-in-Old .ensures))
 
 pub returns-in-Answer : need.returns-in-Answer
-returns-in-Answer c = whole (means (c .args .report .now)) _ _ _ _ (valid (c .args .report .now)) (c .told-out) (ap (λ r. kittyBytes (means r)) (c .in-Answer .is) ∙ ap (λ n. 27 ∷ 91 ∷ 63 ∷ (decimal n ++ (117 ∷ []))) (sym (c .bits .ensures))) (wrote-more (c .put-bytes-at .ensures) (wrote-more (c .put-code-at .ensures .wrote) (c .put-byte .ensures)))
+returns-in-Answer c = whole (means (c .args .report .now)) _ _ _ _ (valid (c .args .report .now)) (c .told-out) (ap (λ r. kittyBytes (means r)) (c .in-Answer .is) ∙ ap (λ n. 27 ∷ 91 ∷ 63 ∷ (decimal n ++ (117 ∷ []))) (sym (c .bits .ensures))) (wrote-more (c .put-bytes-at .ensures .fits (omega arith)) (wrote-more (c .put-code-at .ensures .wrote) (c .put-byte .ensures)))
 
 -- the long form
 pub returns-else-is-plain : need.returns-else-is-plain
@@ -35,4 +35,4 @@ returns-else-is-plain c =
     let f = fields (c .in-Sequence .s) in
     let p : plain f ≡ false = sym (c .is-plain .ensures) ∙ c .if-is-plain .left in
     let e = ap (λ r. kittyBytes (means r)) (c .in-Sequence .is) ∙ ap (λ b. 27 ∷ 91 ∷ cond b (69 ∷ []) (parts f)) p in
-    whole (means (c .args .report .now)) _ _ (27 ∷ 91 ∷ parts f) _ (valid (c .args .report .now)) (c .told-out) e (wrote-more (c .put-bytes-at-else-is-plain .ensures) (c .put-parts .ensures))
+    whole (means (c .args .report .now)) _ _ (27 ∷ 91 ∷ parts f) _ (valid (c .args .report .now)) (c .told-out) e (wrote-more (c .put-bytes-at-else-is-plain .ensures .fits (omega arith)) (c .put-parts .ensures))

@@ -1,0 +1,2 @@
+// Reports as frames for a recorder.
+pub mod frames;

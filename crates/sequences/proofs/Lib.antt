@@ -1,0 +1,3 @@
+pub mod SequenceLaws
+pub mod Telling
+pub mod TextLaws

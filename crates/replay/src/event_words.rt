@@ -59,7 +59,7 @@ fn part_words<'a>(words: Words<'a>) -> Result<(PartWords<'a>, Words<'a>), Bad> {
     Ok((part, rest))
 }
 
-fn optional_place(word: &str) -> Result<Option<PhysKeyCode>, Bad> {
+pub fn optional_place(word: &str) -> Result<Option<PhysKeyCode>, Bad> {
     if word == "-" {
         Ok(None)
     } else {
@@ -90,14 +90,14 @@ pub fn event_words<'a>(words: Words<'a>) -> Result<EventWords<'a>, Bad> {
     })
 }
 
-fn fill(key: &str, into: &mut Vec<u8>) -> Result<(), Bad> {
+// Puts the bytes of a composed key where the key can borrow them.
+pub fn fill(key: &str, into: &mut Vec<u8>) -> Result<(), Bad> {
     match after(key, "s:") {
         Some(bytes) => read_bytes(bytes, into),
         None => Ok(()),
     }
 }
 
-// Puts the bytes of composed keys where the event can borrow them.
 pub fn fill_scratch(words: &EventWords, scratch: &mut Scratch) -> Result<(), Bad> {
     fill(words.own.key, &mut scratch.own)?;
     match words.raw {

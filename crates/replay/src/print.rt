@@ -6,6 +6,7 @@ use input_types::key_code::KeyCode;
 use input_types::phys_key_code::PhysKeyCode;
 use names::key_names::plain_name;
 use names::phys_names::phys_name;
+
 use std::io;
 use std::io::Write;
 

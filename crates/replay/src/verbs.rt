@@ -3,7 +3,9 @@ use crate::event_words::EventWords;
 use crate::event_words::Scratch;
 use crate::event_words::event_of;
 use crate::event_words::event_words;
+use crate::event_words::fill;
 use crate::event_words::fill_scratch;
+use crate::event_words::optional_place;
 use crate::print::put;
 use crate::print::put_bad;
 use crate::print::put_bytes;
@@ -28,8 +30,12 @@ use encoding::encode;
 use input_types::control::ctrl_mapping;
 use input_types::control::is_ascii_control;
 use input_types::event::KeyEvent;
+use input_types::event::RawKeyEvent;
 use input_types::flags::KittyKeyboardFlags;
+use input_types::key_code::KeyCode;
+use input_types::modifiers::KeyboardLedStatus;
 use input_types::modifiers::Modifiers;
+use input_types::phys_key_code::PhysKeyCode;
 use layout::us::Us;
 use layout::us::UsLayout;
 use layout::us::us_layout_unshift;
@@ -58,17 +64,34 @@ fn put_encoded<W: Write, D: Dialect>(
     }
 }
 
-fn flags_and_event<'a>(
-    words: Words<'a>,
-    scratch: &mut Scratch,
-) -> Result<(KittyKeyboardFlags, EventWords<'a>), Bad> {
-    let (bits, rest) = words.next()?;
-    let Some(flags) = KittyKeyboardFlags::from_bits(read_bits(bits)?) else {
-        return Err(Bad::Bits);
-    };
-    let event = event_words(rest)?;
+fn event_in<'a>(words: Words<'a>, scratch: &mut Scratch) -> Result<EventWords<'a>, Bad> {
+    let event = event_words(words)?;
     fill_scratch(&event, scratch)?;
-    Ok((flags, event))
+    Ok(event)
+}
+
+fn flags_in(word: &str) -> Result<KittyKeyboardFlags, Bad> {
+    match KittyKeyboardFlags::from_bits(read_bits(word)?) {
+        Some(flags) => Ok(flags),
+        None => Err(Bad::Bits),
+    }
+}
+
+fn answer_event<W: Write, D: Dialect>(
+    out: &mut W,
+    dialect: &D,
+    flags: KittyKeyboardFlags,
+    words: Words,
+    scratch: &mut Scratch,
+) -> io::Result<()> {
+    let parts = match event_in(words, scratch) {
+        Ok(parts) => parts,
+        Err(bad) => return put_bad(out, bad),
+    };
+    match event_of(&parts, scratch.own.as_slice(), scratch.raw.as_slice()) {
+        Ok(event) => put_encoded(out, dialect, flags, &event),
+        Err(bad) => put_bad(out, bad),
+    }
 }
 
 fn answer_encode<W: Write, D: Dialect>(
@@ -77,15 +100,219 @@ fn answer_encode<W: Write, D: Dialect>(
     words: Words,
     scratch: &mut Scratch,
 ) -> io::Result<()> {
-    match flags_and_event(words, scratch) {
-        Ok((flags, parts)) => match event_of(
-            &parts,
-            scratch.own.as_slice(),
-            scratch.raw.as_slice(),
-        ) {
-            Ok(event) => put_encoded(out, dialect, flags, &event),
-            Err(bad) => put_bad(out, bad),
+    let (word, rest) = match words.next() {
+        Ok(parts) => parts,
+        Err(bad) => return put_bad(out, bad),
+    };
+    match flags_in(word) {
+        Ok(flags) => answer_event(out, dialect, flags, rest, scratch),
+        Err(bad) => put_bad(out, bad),
+    }
+}
+
+// What is asked of a key.
+#[derive(Clone, Copy)]
+enum OfKey {
+    Place,
+    Modifier,
+}
+
+fn put_of_key<W: Write>(out: &mut W, ask: OfKey, key: KeyCode) -> io::Result<()> {
+    match ask {
+        OfKey::Place => put_optional_place(out, key.to_phys(), "none"),
+        OfKey::Modifier => put_truth(out, key.is_modifier()),
+    }
+}
+
+fn key_word<'a>(words: Words<'a>, scratch: &mut Scratch) -> Result<&'a str, Bad> {
+    let word = words.last()?;
+    fill(word, &mut scratch.own)?;
+    Ok(word)
+}
+
+fn answer_key<W: Write>(
+    out: &mut W,
+    ask: OfKey,
+    words: Words,
+    scratch: &mut Scratch,
+) -> io::Result<()> {
+    let word = match key_word(words, scratch) {
+        Ok(word) => word,
+        Err(bad) => return put_bad(out, bad),
+    };
+    match read_key(word, scratch.own.as_slice()) {
+        Ok(key) => put_of_key(out, ask, key),
+        Err(bad) => put_bad(out, bad),
+    }
+}
+
+// What is asked of a place.
+#[derive(Clone, Copy)]
+enum OfPlace {
+    Key,
+    Modifier,
+}
+
+fn place_in(words: Words) -> Result<PhysKeyCode, Bad> {
+    read_place(words.last()?)
+}
+
+fn answer_place<W: Write>(out: &mut W, ask: OfPlace, words: Words) -> io::Result<()> {
+    match place_in(words) {
+        Ok(place) => match ask {
+            OfPlace::Key => put_key(out, place.to_key_code()),
+            OfPlace::Modifier => put_truth(out, place.is_modifier()),
         },
+        Err(bad) => put_bad(out, bad),
+    }
+}
+
+// What is asked of a character.
+#[derive(Clone, Copy)]
+enum OfChar {
+    Ctrl,
+    Control,
+    Base,
+}
+
+fn char_in(words: Words) -> Result<char, Bad> {
+    read_char(words.last()?)
+}
+
+fn answer_char<W: Write>(out: &mut W, ask: OfChar, words: Words) -> io::Result<()> {
+    match char_in(words) {
+        Ok(c) => match ask {
+            OfChar::Ctrl => put_optional_char(out, ctrl_mapping(c)),
+            OfChar::Control => put_optional_char(out, is_ascii_control(c)),
+            OfChar::Base => put_char(out, us_layout_unshift(c)),
+        },
+        Err(bad) => put_bad(out, bad),
+    }
+}
+
+// What is asked of bits.
+#[derive(Clone, Copy)]
+enum OfBits {
+    Xterm,
+    Unplaced,
+}
+
+fn bits_in(words: Words) -> Result<u16, Bad> {
+    read_bits(words.last()?)
+}
+
+fn put_of_bits<W: Write>(out: &mut W, ask: OfBits, bits: u16) -> io::Result<()> {
+    let modifiers = Modifiers { bits };
+    match ask {
+        OfBits::Xterm => {
+            let number = modifiers.encode_xterm();
+            write!(out, "{number}")
+        }
+        OfBits::Unplaced => {
+            let left = modifiers.remove_positional_mods().bits;
+            write!(out, "{left}")
+        }
+    }
+}
+
+fn answer_bits<W: Write>(out: &mut W, ask: OfBits, words: Words) -> io::Result<()> {
+    match bits_in(words) {
+        Ok(bits) => put_of_bits(out, ask, bits),
+        Err(bad) => put_bad(out, bad),
+    }
+}
+
+// What is asked of a text.
+#[derive(Clone, Copy)]
+enum OfText {
+    Key,
+    Place,
+    Modifiers,
+    Composed,
+}
+
+fn put_read_key<W: Write>(out: &mut W, read: Result<KeyCode, NameFault>) -> io::Result<()> {
+    match read {
+        Ok(key) => {
+            put(out, "ok ")?;
+            put_key(out, key)
+        }
+        Err(fault) => put_name_fault(out, fault),
+    }
+}
+
+fn put_read_place<W: Write>(out: &mut W, read: Result<PhysKeyCode, NameFault>) -> io::Result<()> {
+    match read {
+        Ok(place) => {
+            put(out, "ok ")?;
+            put_place(out, place)
+        }
+        Err(fault) => put_name_fault(out, fault),
+    }
+}
+
+fn put_read_modifiers<W: Write>(out: &mut W, read: Result<Modifiers, NameFault>) -> io::Result<()> {
+    match read {
+        Ok(modifiers) => {
+            let bits = modifiers.bits;
+            write!(out, "ok {bits}")
+        }
+        Err(fault) => put_name_fault(out, fault),
+    }
+}
+
+fn put_composed<W: Write>(out: &mut W, text: &[u8]) -> io::Result<()> {
+    match composed(text) {
+        Ok(key) => put_key(out, key),
+        Err(fault) => put_name_fault(out, fault),
+    }
+}
+
+fn put_of_text<W: Write>(out: &mut W, ask: OfText, text: &[u8]) -> io::Result<()> {
+    match ask {
+        OfText::Key => put_read_key(out, read_key_name(text)),
+        OfText::Place => put_read_place(out, read_phys_name(text)),
+        OfText::Modifiers => put_read_modifiers(out, read_modifiers(text)),
+        OfText::Composed => put_composed(out, text),
+    }
+}
+
+fn text_in(words: Words, scratch: &mut Scratch) -> Result<(), Bad> {
+    read_bytes(words.last()?, &mut scratch.own)
+}
+
+fn answer_text<W: Write>(
+    out: &mut W,
+    ask: OfText,
+    words: Words,
+    scratch: &mut Scratch,
+) -> io::Result<()> {
+    match text_in(words, scratch) {
+        Ok(()) => put_of_text(out, ask, scratch.own.as_slice()),
+        Err(bad) => put_bad(out, bad),
+    }
+}
+
+// The number of a key in the table of functional keys.
+fn function_code(words: Words) -> Result<Option<u32>, Bad> {
+    let (word, rest) = words.next()?;
+    let phys_code = optional_place(rest.last()?)?;
+    let raw = RawKeyEvent {
+        key: read_key(word, b"")?,
+        modifiers: Modifiers::NONE,
+        leds: KeyboardLedStatus::NONE,
+        phys_code,
+        raw_code: 0,
+        repeat_count: 1,
+        key_is_down: true,
+    };
+    Ok(raw.kitty_function_code())
+}
+
+fn answer_code<W: Write>(out: &mut W, words: Words) -> io::Result<()> {
+    match function_code(words) {
+        Ok(Some(code)) => write!(out, "{code}"),
+        Ok(None) => put(out, "none"),
         Err(bad) => put_bad(out, bad),
     }
 }
@@ -97,6 +324,31 @@ pub fn answer<W: Write>(out: &mut W, line: &str, scratch: &mut Scratch) -> io::R
     };
     match verb {
         "encode" => answer_encode(out, &Kitty, words, scratch),
+        "tophys" => answer_key(out, OfKey::Place, words, scratch),
+        "ismod" => answer_key(out, OfKey::Modifier, words, scratch),
+        "tokey" => answer_place(out, OfPlace::Key, words),
+        "isphysmod" => answer_place(out, OfPlace::Modifier, words),
+        "ctrl" => answer_char(out, OfChar::Ctrl, words),
+        "asciictl" => answer_char(out, OfChar::Control, words),
+        "unshift" => answer_char(out, OfChar::Base, words),
+        "xterm" => answer_bits(out, OfBits::Xterm, words),
+        "nopos" => answer_bits(out, OfBits::Unplaced, words),
+        "kittycode" => answer_code(out, words),
+        _ => answer_more(out, verb, words, scratch),
+    }
+}
+
+fn answer_more<W: Write>(
+    out: &mut W,
+    verb: &str,
+    words: Words,
+    scratch: &mut Scratch,
+) -> io::Result<()> {
+    match verb {
+        "keyname" => answer_text(out, OfText::Key, words, scratch),
+        "physname" => answer_text(out, OfText::Place, words, scratch),
+        "mods" => answer_text(out, OfText::Modifiers, words, scratch),
+        "composed" => answer_text(out, OfText::Composed, words, scratch),
         _ => put_bad(out, Bad::Verb),
     }
 }

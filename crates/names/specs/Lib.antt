@@ -1,5 +1,5 @@
 pub mod Composed
-pub mod KeyTable
 pub mod PhysTable
 pub mod Reads
 pub mod Refusals
+pub mod Variants

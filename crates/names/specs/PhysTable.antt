@@ -1,10 +1,16 @@
--- The names that a place of the keyboard can be read from; a letter has two.
-use mathlib.Core.List.{List, [], _∷_}
+-- The names of the places of the keyboard.
+use mathlib.Core.Path.{_≡_}
+use mathlib.Core.List.{List, [], _∷_, _++_}
 use Prim.Native.Nat.{ℕ}
 use lib.Chars.{codes}
+use Rattle.std.specs.Options.{valueOr}
+use Rattle.std.specs.declared.option.Option.the-variants.{Some}
+use Rattle.tables.specs.Tables.{bears, nameFor}
 use Rattle.input_types.specs.declared.phys_key_code.PhysKeyCode.{PhysKeyCode}
 use Rattle.input_types.specs.declared.phys_key_code.PhysKeyCode.the-variants as P
+use Rattle.names.specs.Variants.{placeNumber}
 
+-- the names that can be read; a letter has two
 unfoldable pub places : List (List ℕ × PhysKeyCode)
 places =
     (codes "a", P.A)
@@ -150,3 +156,15 @@ places =
     ∷ (codes "8", P.K8)
     ∷ (codes "9", P.K9)
     ∷ []
+
+-- the names that are only written
+unfoldable pub unreadPlaces : List (List ℕ × PhysKeyCode)
+unreadPlaces = (codes "F21", P.F21) ∷ (codes "F22", P.F22) ∷ (codes "F23", P.F23) ∷ (codes "F24", P.F24) ∷ []
+
+-- the first name that there is for a place
+unfoldable pub placeName : PhysKeyCode → List ℕ
+placeName p = valueOr (nameFor placeNumber places (placeNumber p)) (valueOr (nameFor placeNumber unreadPlaces (placeNumber p)) [])
+
+-- the name of a place is that place's
+abbrev pub Places-named : Type 0
+Places-named = (p : PhysKeyCode) → bears (places ++ unreadPlaces) (placeName p) ≡ Some p

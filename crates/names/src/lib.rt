@@ -1,5 +1,5 @@
-// The names of keys: what a name says, and what is wrong with one.
+// The names of places, keys that an input method composed, and what is wrong with a name.
 pub mod composed;
 pub mod fault;
-pub mod key_names;
 pub mod phys_names;
+pub mod variants;

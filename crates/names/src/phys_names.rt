@@ -1,17 +1,22 @@
 // The names of keys by their place on a US keyboard.
+ghost use mathlib.Core.List.{_++_};
 ghost use mathlib.Core.Path.{_≡_};
-ghost use Rattle.tables.specs.Tables.{bears, Table};
-ghost use Rattle.names.specs.PhysTable.{places};
+ghost use Rattle.std.specs.Options.{mapped};
+ghost use Rattle.tables.specs.Tables.{bears, nameFor, Table};
+ghost use Rattle.names.specs.PhysTable.{places, unreadPlaces, placeName, Places-named};
 ghost use Rattle.names.specs.Reads.{ofText, placeNamed};
+ghost use Rattle.names.specs.Variants.{placeNumber};
 use crate::fault::NameFault;
 use crate::fault::NameFaultFromText;
+use crate::variants::PhysKeyCodeVariant;
+use crate::variants::name_of;
 use input_types::phys_key_code::PhysKeyCode;
 use tables::Named;
 use tables::find;
 use texts::checked;
 
-// A letter has two names, of which the small one is written.
-const PHYS_NAMES: [Named<PhysKeyCode>; 142] = [
+// The names that can be read. A letter has two, of which the small one is written.
+static PHYS_NAMES: [Named<PhysKeyCode>; 142] = [
     Named("a", PhysKeyCode::A),
     Named("A", PhysKeyCode::A),
     Named("b", PhysKeyCode::B),
@@ -156,9 +161,18 @@ const PHYS_NAMES: [Named<PhysKeyCode>; 142] = [
     Named("9", PhysKeyCode::K9),
 ];
 
-// No two places have one name.
-pub fn phys_names_apart() -> u8
-    ensures { λ _. ⌜ Table places ⌝ }
+// The names of the others.
+static UNREAD_PHYS_NAMES: [Named<PhysKeyCode>; 4] = [
+    Named("F21", PhysKeyCode::F21),
+    Named("F22", PhysKeyCode::F22),
+    Named("F23", PhysKeyCode::F23),
+    Named("F24", PhysKeyCode::F24),
+];
+
+// No two places have one name, and the name that is written of a place is that place's.
+pub fn phys_names_hold() -> u8
+    ensures apart { λ _. ⌜ Table (places ++ unreadPlaces) ⌝ }
+    ensures own { λ _. ⌜ Places-named ⌝ }
 {
     0
 }
@@ -167,6 +181,28 @@ fn place_in_table(name: &str) -> Option<PhysKeyCode>
     ensures { λ r. ⌜ r ≡ bears places (now (name .entry)) ⌝ }
 {
     find(&PHYS_NAMES, name)
+}
+
+fn read_name(key: PhysKeyCode) -> Option<&'static str>
+    ensures { λ r. ⌜ mapped (λ x. now x) r ≡ nameFor placeNumber places (placeNumber key) ⌝ }
+{
+    name_of(&PHYS_NAMES, &key)
+}
+
+fn unread_name(key: PhysKeyCode) -> Option<&'static str>
+    ensures { λ r. ⌜ mapped (λ x. now x) r ≡ nameFor placeNumber unreadPlaces (placeNumber key) ⌝ }
+{
+    name_of(&UNREAD_PHYS_NAMES, &key)
+}
+
+// The name of a place: the first in the table.
+pub fn phys_name(key: PhysKeyCode) -> &'static str
+    ensures { λ r. ⌜ now r ≡ placeName key ⌝ }
+{
+    match read_name(key) {
+        Some(name) => name,
+        None => unread_name(key).unwrap_or(""),
+    }
 }
 
 // The key at the place that bears a name.

@@ -18,6 +18,11 @@ abbrev pub bears : {A : Type 0} → List (List ℕ × A) → List ℕ → Option
 bears [] s = None
 bears (e ∷ es) s = cond (sameBytes (e .0) s) (Some (e .1)) (bears es s)
 
+-- the first name of a table that stands for a value of this number
+abbrev pub nameFor : {A : Type 0} → (A → ℕ) → List (List ℕ × A) → ℕ → Option (List ℕ)
+nameFor number [] n = None
+nameFor number (e ∷ es) n = cond (eqb (number (e .1)) n) (Some (e .0)) (nameFor number es n)
+
 -- no two pairs begin with one name
 abbrev pub apart : {A : Type 0} → List (List ℕ × A) → Bool
 apart [] = true

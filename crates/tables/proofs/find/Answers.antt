@@ -5,11 +5,11 @@ use Rattle.tables.proofs.find.Needs as need
 
 pub loop-e-again : need.loop-e-again
 loop-e-again g c =
-    c .loop-e .inv ∙ past _ _ (c .e-item .result) _ (c .eq .result) (c .loop-e-test .taken) (c .e-item .is) (c .eq .ensures) (c .if-eq .left)
+    c .loop-e .inv ∙ past _ _ (c .e-item .result) (c .loop-e-test .taken) (c .e-item .is) _ (c .eq .result) (c .eq .ensures) (c .if-eq .left)
 
 pub returns-then-eq : need.returns-then-eq
 returns-then-eq g c =
-    sym (c .loop-e .inv ∙ here _ _ (c .e-item .result) _ (c .eq .result) (c .loop-e-test .taken) (c .e-item .is) (c .eq .ensures) (c .if-eq .taken))
+    sym (c .loop-e .inv ∙ here _ _ (c .e-item .result) (c .loop-e-test .taken) (c .e-item .is) _ (c .eq .result) (c .eq .ensures) (c .if-eq .taken))
 
 pub returns : need.returns
-returns g c = sym (c .loop-e .inv ∙ none (c .args .table .now) (c .loop-e .e-index) (c .args .name .now) (search needs))
+returns g c = sym (c .loop-e .inv ∙ none (c .args .table .now) (c .loop-e .e-index) (search needs) (c .args .name .now))

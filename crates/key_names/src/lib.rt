@@ -1,22 +1,29 @@
-// The names of keys by what they mean, as they are read.
+// The names of keys by what they mean.
+ghost use mathlib.Core.List.{_++_};
 ghost use mathlib.Core.Path.{_≡_};
+ghost use Rattle.std.specs.Options.{mapped};
 ghost use Rattle.std.specs.shelf.Text.{decodes};
-ghost use Rattle.tables.specs.Tables.{bears, Table};
-ghost use Rattle.names.specs.KeyTable.{keys};
-ghost use Rattle.names.specs.Reads.{ofText, charKey, keyNamed, single};
-use crate::fault::NameFault;
-use crate::fault::NameFaultFromNumber;
-use crate::fault::NameFaultFromText;
+ghost use Rattle.tables.specs.Tables.{bears, nameFor, Table};
+ghost use Rattle.key_names.specs.KeyTable.{keys, unreadKeys, plainName, Keys-named};
+ghost use Rattle.names.specs.Reads.{ofText};
+ghost use Rattle.key_names.specs.KeyReads.{keyNamed, single};
+ghost use Rattle.names.specs.Variants.{keyNumber};
 use input_types::key_code::KeyCode;
+use names::composed::char_key;
+use names::fault::NameFault;
+use names::fault::NameFaultFromNumber;
+use names::fault::NameFaultFromText;
+use names::variants::KeyCodeVariant;
+use names::variants::name_of;
 use numbers::read_within;
 use tables::Named;
 use tables::find;
 use texts::after;
 use texts::checked;
-use texts::is_allowed;
 use texts::only_char;
 
-const KEY_NAMES: [Named<KeyCode<'static>>; 70] = [
+// The names that can be read.
+static KEY_NAMES: [Named<KeyCode<'static>>; 70] = [
     Named("Hyper", KeyCode::Hyper),
     Named("Super", KeyCode::Super),
     Named("Meta", KeyCode::Meta),
@@ -89,9 +96,19 @@ const KEY_NAMES: [Named<KeyCode<'static>>; 70] = [
     Named("Delete", KeyCode::Char('\u{7f}')),
 ];
 
-// No two keys have one name.
-pub fn key_names_apart() -> u8
-    ensures { λ _. ⌜ Table keys ⌝ }
+// The names of the others.
+static UNREAD_KEY_NAMES: [Named<KeyCode<'static>>; 5] = [
+    Named("KeyPadHome", KeyCode::KeyPadHome),
+    Named("KeyPadEnd", KeyCode::KeyPadEnd),
+    Named("KeyPadPageUp", KeyCode::KeyPadPageUp),
+    Named("KeyPadPageDown", KeyCode::KeyPadPageDown),
+    Named("KeyPadBegin", KeyCode::KeyPadBegin),
+];
+
+// No two keys have one name, and the name that is written of a key is that key's.
+pub fn key_names_hold() -> u8
+    ensures apart { λ _. ⌜ Table (keys ++ unreadKeys) ⌝ }
+    ensures own { λ _. ⌜ Keys-named ⌝ }
 {
     0
 }
@@ -100,17 +117,6 @@ fn key_in_table(name: &str) -> Option<KeyCode<'static>>
     ensures { λ r. ⌜ r ≡ bears keys (now (name .entry)) ⌝ }
 {
     find(&KEY_NAMES, name)
-}
-
-// The key of a character.
-pub(crate) fn char_key(c: char) -> Result<KeyCode<'static>, NameFault>
-    ensures { λ r. ⌜ r ≡ charKey c ⌝ }
-{
-    if is_allowed(c) {
-        Ok(KeyCode::Char(c))
-    } else {
-        Err(NameFault::NotAllowed)
-    }
 }
 
 fn single_char(name: &str) -> Result<KeyCode<'static>, NameFault>
@@ -143,4 +149,26 @@ pub fn read_key_name(bytes: &[u8]) -> Result<KeyCode<'static>, NameFault>
     ensures { λ r. ⌜ r ≡ ofText keyNamed (now (bytes .entry)) ⌝ }
 {
     key_of_name(checked(bytes)?)
+}
+
+fn read_name(key: KeyCode<'_>) -> Option<&'static str>
+    ensures { λ r. ⌜ mapped (λ x. now x) r ≡ nameFor keyNumber keys (keyNumber (key .entry)) ⌝ }
+{
+    name_of(&KEY_NAMES, &key)
+}
+
+fn unread_name(key: KeyCode<'_>) -> Option<&'static str>
+    ensures { λ r. ⌜ mapped (λ x. now x) r ≡ nameFor keyNumber unreadKeys (keyNumber (key .entry)) ⌝ }
+{
+    name_of(&UNREAD_KEY_NAMES, &key)
+}
+
+// The name of a key that holds nothing.
+pub fn plain_name(key: KeyCode<'_>) -> &'static str
+    ensures { λ r. ⌜ now r ≡ plainName (key .entry) ⌝ }
+{
+    match read_name(key) {
+        Some(name) => name,
+        None => unread_name(key).unwrap_or(""),
+    }
 }

@@ -1,12 +1,18 @@
--- The names that a key can be read from.
-use mathlib.Core.List.{List, [], _∷_}
+-- The names of the keys.
+use mathlib.Core.Path.{_≡_}
+use mathlib.Core.List.{List, [], _∷_, _++_}
 use Prim.Native.Nat.{ℕ}
 use lib.Chars.{codes}
+use Rattle.std.specs.Options.{valueOr}
+use Rattle.std.specs.shelf.Lists.{All}
+use Rattle.tables.specs.Tables.{nameFor}
 use Rattle.input_types.specs.declared.key_code.KeyCode.{KeyCode}
 use Rattle.input_types.specs.declared.key_code.KeyCode.the-variants as K
+use Rattle.names.specs.Variants.{keyNumber}
 
-unfoldable pub keys : List (List ℕ × KeyCode)
-keys =
+-- the keys whose own names can be read
+unfoldable pub plainKeys : List (List ℕ × KeyCode)
+plainKeys =
     (codes "Hyper", K.Hyper)
     ∷ (codes "Super", K.Super)
     ∷ (codes "Meta", K.Meta)
@@ -71,10 +77,24 @@ keys =
     ∷ (codes "ApplicationRightArrow", K.ApplicationRightArrow)
     ∷ (codes "ApplicationUpArrow", K.ApplicationUpArrow)
     ∷ (codes "ApplicationDownArrow", K.ApplicationDownArrow)
-    ∷ (codes "Backspace", K.Char 8)
-    ∷ (codes "Tab", K.Char 9)
-    ∷ (codes "Return", K.Char 13)
-    ∷ (codes "Enter", K.Char 13)
-    ∷ (codes "Escape", K.Char 27)
-    ∷ (codes "Delete", K.Char 127)
     ∷ []
+
+-- the characters that have names
+unfoldable pub namedChars : List (List ℕ × KeyCode)
+namedChars = (codes "Backspace", K.Char 8) ∷ (codes "Tab", K.Char 9) ∷ (codes "Return", K.Char 13) ∷ (codes "Enter", K.Char 13) ∷ (codes "Escape", K.Char 27) ∷ (codes "Delete", K.Char 127) ∷ []
+
+-- the names that can be read
+unfoldable pub keys : List (List ℕ × KeyCode)
+keys = plainKeys ++ namedChars
+
+-- the names that are only written
+unfoldable pub unreadKeys : List (List ℕ × KeyCode)
+unreadKeys = (codes "KeyPadHome", K.KeyPadHome) ∷ (codes "KeyPadEnd", K.KeyPadEnd) ∷ (codes "KeyPadPageUp", K.KeyPadPageUp) ∷ (codes "KeyPadPageDown", K.KeyPadPageDown) ∷ (codes "KeyPadBegin", K.KeyPadBegin) ∷ []
+
+-- the first name that there is for a key
+unfoldable pub plainName : KeyCode → List ℕ
+plainName k = valueOr (nameFor keyNumber keys (keyNumber k)) (valueOr (nameFor keyNumber unreadKeys (keyNumber k)) [])
+
+-- each of these keys has its own name
+abbrev pub Keys-named : Type 0
+Keys-named = All (λ e. plainName (e .1) ≡ e .0) (plainKeys ++ unreadKeys)

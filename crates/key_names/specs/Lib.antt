@@ -1,0 +1,2 @@
+pub mod KeyReads
+pub mod KeyTable

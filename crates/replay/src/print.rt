@@ -4,9 +4,8 @@ use input_types::event::KeyEvent;
 use input_types::event::RawKeyEvent;
 use input_types::key_code::KeyCode;
 use input_types::phys_key_code::PhysKeyCode;
-use names::key_names::plain_name;
+use key_names::plain_name;
 use names::phys_names::phys_name;
-
 use std::io;
 use std::io::Write;
 

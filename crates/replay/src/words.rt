@@ -1,7 +1,7 @@
 // The words of a query: keys, places, bits, characters and bytes.
 use input_types::key_code::KeyCode;
 use input_types::phys_key_code::PhysKeyCode;
-use names::key_names::read_key_name;
+use key_names::read_key_name;
 use names::phys_names::read_phys_name;
 use std::alloc::Refused;
 use texts::after;

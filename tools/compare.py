@@ -70,7 +70,7 @@ def explain_encode(query, theirs, mine):
     if model.answer(query, frozenset()) == theirs:
         return " + ".join(c for c in model.CORRECTIONS if model.answer(query, model.ALL - {c}) != mine) or "several corrections at once"
     kind, v = model.key(query.split(" ")[3])
-    if kind == "char" and not (ord(v) < 0x180 or 0x400 <= ord(v) <= 0x45F) and v.lower() != v:
+    if kind == "char" and not (ord(v) < 0x180 or 0x400 <= ord(v) <= 0x45F):
         return "lower case outside the stated letters"
     return None
 
@@ -168,7 +168,7 @@ def explain_mods(query, theirs, mine):
 def explain_unshift(query, theirs, mine):
     c = chr(int(query.split(" ")[1], 16))
     stated = ord(c) < 0x180 or 0x400 <= ord(c) <= 0x45F
-    if not stated and f"{ord(c):x}" == mine and c.lower() != c:
+    if not stated and f"{ord(c):x}" == mine:
         return "lower case outside the stated letters"
     return None
 
@@ -194,7 +194,7 @@ def explain_composed(query, theirs, mine):
 
 def explain_physical_letter(query, theirs, mine):
     """The Rust names a physical letter by either case, by chance."""
-    if len(theirs) == 2 and bytes.fromhex(theirs).decode().lower() == bytes.fromhex(mine).decode():
+    if len(theirs) == 2 and len(mine) == 2 and bytes.fromhex(theirs).decode().lower() == bytes.fromhex(mine).decode():
         return "a physical letter has its lower-case name"
     return None
 

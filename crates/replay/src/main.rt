@@ -1,6 +1,7 @@
 // Answers queries that come one a line, each by one line.
 mod event_words;
 mod print;
+mod reports;
 mod verbs;
 mod words;
 

@@ -16,6 +16,9 @@ use crate::print::put_optional_char;
 use crate::print::put_optional_place;
 use crate::print::put_place;
 use crate::print::put_truth;
+use crate::reports::answer_read;
+use crate::reports::answer_write;
+use crate::reports::flags_in;
 use crate::words::Bad;
 use crate::words::Words;
 use crate::words::read_bits;
@@ -27,6 +30,8 @@ use dialect::dialect::Dialect;
 use dialect::kitty::Kitty;
 use dialect::kitty::KittyDialect;
 use encoding::encode;
+use frames::frames::Frames;
+use frames::frames::FramesDialect;
 use input_types::control::ctrl_mapping;
 use input_types::control::is_ascii_control;
 use input_types::event::KeyEvent;
@@ -44,6 +49,7 @@ use modifier_names::reading::read_modifiers;
 use names::composed::composed;
 use names::fault::NameFault;
 use names::phys_names::read_phys_name;
+use reading::kitty::KittyReader;
 use std::io;
 use std::io::Write;
 
@@ -68,13 +74,6 @@ fn event_in<'a>(words: Words<'a>, scratch: &mut Scratch) -> Result<EventWords<'a
     let event = event_words(words)?;
     fill_scratch(&event, scratch)?;
     Ok(event)
-}
-
-fn flags_in(word: &str) -> Result<KittyKeyboardFlags, Bad> {
-    match KittyKeyboardFlags::from_bits(read_bits(word)?) {
-        Some(flags) => Ok(flags),
-        None => Err(Bad::Bits),
-    }
 }
 
 fn answer_event<W: Write, D: Dialect>(
@@ -345,10 +344,38 @@ fn answer_more<W: Write>(
     scratch: &mut Scratch,
 ) -> io::Result<()> {
     match verb {
+        "frame" => answer_encode(out, &Frames, words, scratch),
+        "write" => answer_dialect(out, DialectVerb::Write, words, scratch),
+        "read" => answer_dialect(out, DialectVerb::Read, words, scratch),
         "keyname" => answer_text(out, OfText::Key, words, scratch),
         "physname" => answer_text(out, OfText::Place, words, scratch),
         "mods" => answer_text(out, OfText::Modifiers, words, scratch),
         "composed" => answer_text(out, OfText::Composed, words, scratch),
         _ => put_bad(out, Bad::Verb),
+    }
+}
+
+// What is asked of a dialect.
+#[derive(Clone, Copy)]
+enum DialectVerb {
+    Write,
+    Read,
+}
+
+fn answer_dialect<W: Write>(
+    out: &mut W,
+    ask: DialectVerb,
+    words: Words,
+    scratch: &mut Scratch,
+) -> io::Result<()> {
+    let (name, rest) = match words.next() {
+        Ok(parts) => parts,
+        Err(bad) => return put_bad(out, bad),
+    };
+    match (name, ask) {
+        ("kitty", DialectVerb::Write) => answer_write(out, &Kitty, rest),
+        ("frame", DialectVerb::Write) => answer_write(out, &Frames, rest),
+        ("kitty", DialectVerb::Read) => answer_read(out, &Kitty, rest, scratch),
+        _ => put_bad(out, Bad::Words),
     }
 }

@@ -17,6 +17,7 @@ pub enum Bad {
     Number,
     Hex,
     Direction,
+    Report,
     Memory,
 }
 
@@ -31,6 +32,7 @@ impl Bad {
             Bad::Number => "number",
             Bad::Hex => "hex",
             Bad::Direction => "direction",
+            Bad::Report => "report",
             Bad::Memory => "memory",
         }
     }
@@ -140,10 +142,7 @@ pub fn read_key<'a>(word: &str, text: &'a [u8]) -> Result<KeyCode<'a>, Bad> {
 
 fn read_plain_key(word: &str) -> Result<KeyCode<'static>, Bad> {
     if let Some(number) = after(word, "r:") {
-        return match number.parse::<u32>() {
-            Ok(n) => Ok(KeyCode::RawCode(n)),
-            Err(_) => Err(Bad::Number),
-        };
+        return Ok(KeyCode::RawCode(read_number(number)?));
     }
     if let Some(number) = after(word, "n:") {
         return Ok(KeyCode::Numpad(read_small(number)?));
@@ -167,6 +166,13 @@ fn by_own_name(word: &str) -> Result<KeyCode<'static>, Bad> {
         Ok(KeyCode::Char(_)) | Ok(KeyCode::Numpad(_)) | Ok(KeyCode::Function(_)) => Err(Bad::Key),
         Ok(key) => Ok(key),
         Err(_) => Err(Bad::Key),
+    }
+}
+
+pub fn read_number(word: &str) -> Result<u32, Bad> {
+    match word.parse::<u32>() {
+        Ok(n) => Ok(n),
+        Err(_) => Err(Bad::Number),
     }
 }
 

@@ -46,6 +46,10 @@ use layout::us::Us;
 use layout::us::UsLayout;
 use layout::us::us_layout_unshift;
 use modifier_names::reading::read_modifiers;
+use name_writing::flags::write_leds;
+use name_writing::flags::write_modifiers;
+use name_writing::keys::write_key_name;
+use name_writing::keys::write_phys_name;
 use names::composed::composed;
 use names::fault::NameFault;
 use names::phys_names::read_phys_name;
@@ -114,12 +118,22 @@ fn answer_encode<W: Write, D: Dialect>(
 enum OfKey {
     Place,
     Modifier,
+    Name,
+}
+
+fn put_key_name<W: Write>(out: &mut W, key: KeyCode) -> io::Result<()> {
+    let mut row = [0u8; 512];
+    match write_key_name(key, &mut row) {
+        Ok(count) => put_bytes(out, &row[0..count]),
+        Err(fault) => put_name_fault(out, fault),
+    }
 }
 
 fn put_of_key<W: Write>(out: &mut W, ask: OfKey, key: KeyCode) -> io::Result<()> {
     match ask {
         OfKey::Place => put_optional_place(out, key.to_phys(), "none"),
         OfKey::Modifier => put_truth(out, key.is_modifier()),
+        OfKey::Name => put_key_name(out, key),
     }
 }
 
@@ -150,6 +164,15 @@ fn answer_key<W: Write>(
 enum OfPlace {
     Key,
     Modifier,
+    Name,
+}
+
+fn put_phys_name<W: Write>(out: &mut W, place: PhysKeyCode) -> io::Result<()> {
+    let mut row = [0u8; 64];
+    match write_phys_name(place, &mut row) {
+        Ok(count) => put_bytes(out, &row[0..count]),
+        Err(fault) => put_name_fault(out, fault),
+    }
 }
 
 fn place_in(words: Words) -> Result<PhysKeyCode, Bad> {
@@ -161,6 +184,7 @@ fn answer_place<W: Write>(out: &mut W, ask: OfPlace, words: Words) -> io::Result
         Ok(place) => match ask {
             OfPlace::Key => put_key(out, place.to_key_code()),
             OfPlace::Modifier => put_truth(out, place.is_modifier()),
+            OfPlace::Name => put_phys_name(out, place),
         },
         Err(bad) => put_bad(out, bad),
     }
@@ -194,6 +218,27 @@ fn answer_char<W: Write>(out: &mut W, ask: OfChar, words: Words) -> io::Result<(
 enum OfBits {
     Xterm,
     Unplaced,
+    Modifiers,
+    Lights,
+}
+
+fn put_modifiers<W: Write>(out: &mut W, modifiers: Modifiers) -> io::Result<()> {
+    let mut row = [0u8; 128];
+    match write_modifiers(modifiers, &mut row) {
+        Ok(count) => put_bytes(out, &row[0..count]),
+        Err(fault) => put_name_fault(out, fault),
+    }
+}
+
+fn put_lights<W: Write>(out: &mut W, bits: u16) -> io::Result<()> {
+    let leds = KeyboardLedStatus {
+        bits: (bits & 0xff) as u8,
+    };
+    let mut row = [0u8; 64];
+    match write_leds(leds, &mut row) {
+        Ok(count) => put_bytes(out, &row[0..count]),
+        Err(fault) => put_name_fault(out, fault),
+    }
 }
 
 fn bits_in(words: Words) -> Result<u16, Bad> {
@@ -211,6 +256,8 @@ fn put_of_bits<W: Write>(out: &mut W, ask: OfBits, bits: u16) -> io::Result<()> 
             let left = modifiers.remove_positional_mods().bits;
             write!(out, "{left}")
         }
+        OfBits::Modifiers => put_modifiers(out, modifiers),
+        OfBits::Lights => put_lights(out, bits),
     }
 }
 
@@ -347,6 +394,10 @@ fn answer_more<W: Write>(
         "frame" => answer_encode(out, &Frames, words, scratch),
         "write" => answer_dialect(out, DialectVerb::Write, words, scratch),
         "read" => answer_dialect(out, DialectVerb::Read, words, scratch),
+        "keystr" => answer_key(out, OfKey::Name, words, scratch),
+        "physstr" => answer_place(out, OfPlace::Name, words),
+        "modstr" => answer_bits(out, OfBits::Modifiers, words),
+        "ledstr" => answer_bits(out, OfBits::Lights, words),
         "keyname" => answer_text(out, OfText::Key, words, scratch),
         "physname" => answer_text(out, OfText::Place, words, scratch),
         "mods" => answer_text(out, OfText::Modifiers, words, scratch),

@@ -83,12 +83,9 @@ fn text_in(word: &str) -> Result<Text, Bad> {
     if word == "-" {
         return Ok(text);
     }
-    let mut rest = word;
-    while let Some((code, more)) = rest.split_once(':') {
+    for code in word.split(':') {
         push_code(&mut text, code)?;
-        rest = more;
     }
-    push_code(&mut text, rest)?;
     Ok(text)
 }
 
@@ -225,9 +222,9 @@ fn put_read<W: Write, R: Reader>(
     room: usize,
 ) -> io::Result<()> {
     let mut row = [0u32; 64];
-    let most = room.min(64);
-    match reader.read(given, &mut row[0..most]) {
-        Ok(seen) => put_seen(out, &seen, &row),
+    let text = &mut row[0..room.min(64)];
+    match reader.read(given, text) {
+        Ok(seen) => put_seen(out, &seen, text),
         Err(fault) => put_declined(out, fault_number(fault), 0),
     }
 }

@@ -11,6 +11,7 @@ use crate::print::put_bad;
 use crate::print::put_bytes;
 use crate::print::put_char;
 use crate::print::put_declined;
+use crate::print::put_event;
 use crate::print::put_key;
 use crate::print::put_optional_char;
 use crate::print::put_optional_place;
@@ -53,6 +54,8 @@ use name_writing::keys::write_phys_name;
 use names::composed::composed;
 use names::fault::NameFault;
 use names::phys_names::read_phys_name;
+use normal::KeyEventNormal;
+use normal::Normal;
 use reading::kitty::KittyReader;
 use std::io;
 use std::io::Write;
@@ -394,6 +397,9 @@ fn answer_more<W: Write>(
         "frame" => answer_encode(out, &Frames, words, scratch),
         "write" => answer_dialect(out, DialectVerb::Write, words, scratch),
         "read" => answer_dialect(out, DialectVerb::Read, words, scratch),
+        "normshift" => answer_changed(out, Change::Shift, words, scratch),
+        "normctrl" => answer_changed(out, Change::Ctrl, words, scratch),
+        "resurface" => answer_changed(out, Change::Surface, words, scratch),
         "keystr" => answer_key(out, OfKey::Name, words, scratch),
         "physstr" => answer_place(out, OfPlace::Name, words),
         "modstr" => answer_bits(out, OfBits::Modifiers, words),
@@ -428,5 +434,38 @@ fn answer_dialect<W: Write>(
         ("frame", DialectVerb::Write) => answer_write(out, &Frames, rest),
         ("kitty", DialectVerb::Read) => answer_read(out, &Kitty, rest, scratch),
         _ => put_bad(out, Bad::Words),
+    }
+}
+
+// How an event is changed.
+#[derive(Clone, Copy)]
+enum Change {
+    Shift,
+    Ctrl,
+    Surface,
+}
+
+fn put_changed<W: Write>(out: &mut W, change: Change, event: KeyEvent) -> io::Result<()> {
+    let changed = match change {
+        Change::Shift => event.normalize_shift(),
+        Change::Ctrl => event.normalize_ctrl(),
+        Change::Surface => event.resurface_positional_modifier_key(),
+    };
+    put_event(out, &changed)
+}
+
+fn answer_changed<W: Write>(
+    out: &mut W,
+    change: Change,
+    words: Words,
+    scratch: &mut Scratch,
+) -> io::Result<()> {
+    let parts = match event_in(words, scratch) {
+        Ok(parts) => parts,
+        Err(bad) => return put_bad(out, bad),
+    };
+    match event_of(&parts, scratch.own.as_slice(), scratch.raw.as_slice()) {
+        Ok(event) => put_changed(out, change, event),
+        Err(bad) => put_bad(out, bad),
     }
 }

@@ -15,7 +15,7 @@ import subprocess
 import sys
 import tempfile
 
-import model
+from expected import WORDS, expected
 
 ORACLE, REPLAY = sys.argv[1], sys.argv[2]
 SMALL = "--small" in sys.argv
@@ -46,33 +46,13 @@ def report(kind, query, theirs, mine):
         print(f"UNEXPLAINED {kind}: {query}\n  the Rust {theirs}\n  replay   {mine}")
 
 
-def outside(query):
-    """The refusal of an event outside the checked ranges, or None."""
-    w = query.split(" ")
-    parts = [(w[3], w[4], w[5])] + ([(w[6], w[7], w[8])] if w[6] != "-" else [])
-    for word, mods, leds in parts:
-        kind, v = model.key(word)
-        if kind == "char" and 0xE000 <= ord(v) <= 0xF8FF:
-            return "declined 5 0"
-        if (kind == "function" and not 1 <= v <= 35) or (kind == "numpad" and v > 9) or int(mods) & 0xE001 or int(leds) & 0xF9:
-            return "declined 6 0"
-        if kind == "text" and len(v) > 32:
-            return f"declined 7 {len(v[:32].encode())}"
-    return None
-
-
-def explain_encode(query, theirs, mine):
-    refusal = outside(query)
-    if refusal:
-        return "refused: outside the ranges" if mine == refusal else None
-    if model.answer(query) != mine:
-        return None
-    if model.answer(query, frozenset()) == theirs:
-        return " + ".join(c for c in model.CORRECTIONS if model.answer(query, model.ALL - {c}) != mine) or "several corrections at once"
-    kind, v = model.key(query.split(" ")[3])
-    if kind == "char" and not (ord(v) < 0x180 or 0x400 <= ord(v) <= 0x45F):
-        return "lower case outside the stated letters"
-    return None
+def settle(verb, query, theirs, mine):
+    """Counts a difference that is expected, and reports one that is not."""
+    wanted, why = expected(query, theirs)
+    if wanted == mine:
+        counts[f"{verb}: {why}"] += 1
+    else:
+        report(verb, query, theirs, mine)
 
 
 def encodes(*arguments):
@@ -82,14 +62,10 @@ def encodes(*arguments):
             subprocess.run([ORACLE, "gen", *arguments], stdout=out, stderr=subprocess.DEVNULL, check=True)
         subprocess.run(f"cut -f1 {pairs} > {queries}; cut -f2 {pairs} > {answers}", shell=True, check=True)
         for query, theirs, mine in differing(queries, answers):
-            why = explain_encode(query, theirs, mine)
-            if why:
-                counts["encode: " + why] += 1
-            else:
-                report("encode", query, theirs, mine)
+            settle("encode", query, theirs, mine)
 
 
-def ask(kind, queries, explain):
+def ask(verb, queries):
     with tempfile.TemporaryDirectory() as folder:
         asked, answers = os.path.join(folder, "asked"), os.path.join(folder, "answers")
         with open(asked, "w") as out:
@@ -97,11 +73,7 @@ def ask(kind, queries, explain):
         with open(asked, "rb") as given, open(answers, "wb") as out:
             subprocess.run([ORACLE], stdin=given, stdout=out, check=True)
         for query, theirs, mine in differing(asked, answers):
-            why = explain(query, theirs, mine)
-            if why:
-                counts[f"{kind}: {why}"] += 1
-            else:
-                report(kind, query, theirs, mine)
+            settle(verb, query, theirs, mine)
 
 
 def listed(what):
@@ -110,93 +82,6 @@ def listed(what):
 
 def hexed(text):
     return text.encode("utf-8").hex() or "-"
-
-
-def never(query, theirs, mine):
-    return None
-
-
-def code_place(text):
-    """The place of the number after a prefix, by the name."""
-    return 6 if text.startswith("Numpad") else 1
-
-
-def named_refusal(text):
-    """The refusal of a text that is no key name."""
-    for prefix, low, high in (("Numpad", 0, 9), ("F", 1, 24)):
-        if text.startswith(prefix) and (prefix == "Numpad" or len(text.encode()) > 1):
-            digits = text[len(prefix):]
-            digits = digits[1:] if digits[:1] == "+" else digits
-            if not digits or any(c not in "0123456789" for c in digits) or int(digits) > 255:
-                return f"declined 3 {len(prefix)}"
-            return f"declined 4 {len(prefix)}"
-    if len(text) == 1:
-        return "declined 5 0"
-    return "declined 2 0"
-
-
-def explain_keyname(query, theirs, mine):
-    word = query.split(" ")[1]
-    text = "" if word == "-" else bytes.fromhex(word).decode()
-    if theirs.startswith("err") and mine == named_refusal(text):
-        return "a refusal has a number and a place"
-    if len(text) == 1 and 0xE000 <= ord(text) <= 0xF8FF and mine == "declined 5 0":
-        return "refused: outside the ranges"
-    return None
-
-
-def explain_physname(query, theirs, mine):
-    return "a refusal has a number and a place" if theirs.startswith("err") and mine == "declined 2 0" else None
-
-
-WHITE = "\t\n\x0b\x0c\r \x85\xa0\u1680" + "".join(map(chr, range(0x2000, 0x200B))) + "\u2028\u2029\u202f\u205f\u3000"
-WORDS = ("SHIFT", "ALT", "OPT", "META", "CTRL", "SUPER", "CMD", "WIN", "LEADER", "NONE", "")
-
-
-def explain_mods(query, theirs, mine):
-    word = query.split(" ")[1]
-    text = "" if word == "-" else bytes.fromhex(word).decode()
-    at = 0
-    for part in text.split("|"):
-        if part.strip(WHITE) not in WORDS:
-            place = at + len(part.encode()) - len(part.lstrip(WHITE).encode())
-            return "a refusal has a number and a place" if theirs.startswith("err") and mine == f"declined 2 {place}" else None
-        at += len(part.encode()) + 1
-    return None
-
-
-def explain_unshift(query, theirs, mine):
-    c = chr(int(query.split(" ")[1], 16))
-    stated = ord(c) < 0x180 or 0x400 <= ord(c) <= 0x45F
-    if not stated and f"{ord(c):x}" == mine:
-        return "lower case outside the stated letters"
-    return None
-
-
-def explain_kittycode(query, theirs, mine):
-    word, phys = query.split(" ")[1:]
-    k = model.key(word)
-    place = None if phys == "-" else phys
-    if str(model.function_code(k, place, model.ALL)) == mine and str(model.function_code(k, place, frozenset())) == theirs:
-        return "volume-down" if mine == "57438" else "insert-number"
-    return None
-
-
-def explain_composed(query, theirs, mine):
-    word = query.split(" ")[1]
-    text = "" if word == "-" else bytes.fromhex(word).decode()
-    if len(text) == 1 and 0xE000 <= ord(text) <= 0xF8FF and mine == "declined 5 0":
-        return "refused: outside the ranges"
-    if len(text) > 32 and mine == f"declined 7 {len(text[:32].encode())}":
-        return "refused: outside the ranges"
-    return None
-
-
-def explain_physical_letter(query, theirs, mine):
-    """The Rust names a physical letter by either case, by chance."""
-    if len(theirs) == 2 and len(mine) == 2 and bytes.fromhex(theirs).decode().lower() == bytes.fromhex(mine).decode():
-        return "a physical letter has its lower-case name"
-    return None
 
 
 def texts(seed, count):
@@ -228,27 +113,27 @@ def main():
     simple = [k for k in keys if ":" not in k] + [f"p:{p}" for p in places] + [f"n:{n}" for n in range(256)] + [f"f:{n}" for n in range(256)]
     simple += ["r:0", "r:77", "r:4294967295", "s:-", "s:6162", "s:c3a9", "s:c3a962"] + [f"c:{c:x}" for c in range(0, 0x500)] + ["c:e000", "c:1f600", "c:10ffff"]
     scalars = [c for c in range(0, 0x110000, PARTS) if not 0xD800 <= c <= 0xDFFF]
-    ask("tophys", (f"tophys {k}" for k in simple), never)
-    ask("ismod", (f"ismod {k}" for k in simple), never)
-    ask("tokey", (f"tokey {p}" for p in places), never)
-    ask("isphysmod", (f"isphysmod {p}" for p in places), never)
-    ask("keystr", (f"keystr {k}" for k in simple), explain_physical_letter)
-    ask("physstr", (f"physstr {p}" for p in places), explain_physical_letter)
+    ask("tophys", (f"tophys {k}" for k in simple))
+    ask("ismod", (f"ismod {k}" for k in simple))
+    ask("tokey", (f"tokey {p}" for p in places))
+    ask("isphysmod", (f"isphysmod {p}" for p in places))
+    ask("keystr", (f"keystr {k}" for k in simple))
+    ask("physstr", (f"physstr {p}" for p in places))
     for verb in ("xterm", "nopos", "modstr"):
-        ask(verb, (f"{verb} {m}" for m in range(0, 8192, 2)), never)
-    ask("ledstr", (f"ledstr {n}" for n in (0, 2, 4, 6)), never)
-    ask("ctrl", (f"ctrl {c:x}" for c in scalars), never)
-    ask("asciictl", (f"asciictl {c:x}" for c in scalars), never)
-    ask("unshift", (f"unshift {c:x}" for c in scalars), explain_unshift)
-    ask("kittycode", (f"kittycode {k} {p}" for k in simple[:300] + ["c:61", "n:5", "f:13", "f:25"] for p in places + ["-"]), explain_kittycode)
-    ask("keyname", (f"keyname {hexed(t)}" for t in texts(1, 300000 // PARTS)), explain_keyname)
-    ask("keyname", (f"keyname {hexed(chr(c))}" for c in scalars[::7]), explain_keyname)
-    ask("physname", (f"physname {hexed(t)}" for t in texts(2, 200000 // PARTS)), explain_physname)
-    ask("mods", (f"mods {hexed(t)}" for t in texts(3, 300000 // PARTS)), explain_mods)
-    ask("composed", (f"composed {hexed(t * n)}" for t, n in zip(texts(4, 200000 // PARTS), itertools.cycle((1, 1, 2, 5)))), explain_composed)
+        ask(verb, (f"{verb} {m}" for m in range(0, 8192, 2)))
+    ask("ledstr", (f"ledstr {n}" for n in (0, 2, 4, 6)))
+    ask("ctrl", (f"ctrl {c:x}" for c in scalars))
+    ask("asciictl", (f"asciictl {c:x}" for c in scalars))
+    ask("unshift", (f"unshift {c:x}" for c in scalars))
+    ask("kittycode", (f"kittycode {k} {p}" for k in simple[:300] + ["c:61", "n:5", "f:13", "f:25"] for p in places + ["-"]))
+    ask("keyname", (f"keyname {hexed(t)}" for t in texts(1, 300000 // PARTS)))
+    ask("keyname", (f"keyname {hexed(chr(c))}" for c in scalars[::7]))
+    ask("physname", (f"physname {hexed(t)}" for t in texts(2, 200000 // PARTS)))
+    ask("mods", (f"mods {hexed(t)}" for t in texts(3, 300000 // PARTS)))
+    ask("composed", (f"composed {hexed(t * n)}" for t, n in zip(texts(4, 200000 // PARTS), itertools.cycle((1, 1, 2, 5)))))
     events = subprocess.run([ORACLE, "gen", "random", "77", str(200000 // PARTS)], capture_output=True, text=True, check=True).stdout
     for verb in ("normshift", "normctrl", "resurface"):
-        ask(verb, (f"{verb} " + line.split("\t")[0].split(" ", 2)[2] for line in events.splitlines()), never)
+        ask(verb, (f"{verb} " + line.split("\t")[0].split(" ", 2)[2] for line in events.splitlines()))
     print(f"{total} queries, {sum(counts.values())} explained differences, {unexplained} unexplained")
     for why, n in sorted(counts.items(), key=lambda item: -item[1]):
         print(f"{n:9} {why}")

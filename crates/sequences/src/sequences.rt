@@ -90,8 +90,8 @@ fn read_closing(bytes: &[u8], at: usize, head: Head, mark: u8) -> Result<Told, F
         return read_text(bytes, at, head);
     }
     match last_of(mark) {
-        None => Err(Fault::Unknown),
         Some(last) => sequence(head, last, Text::none(), at),
+        _ => Err(Fault::Unknown),
     }
 }
 

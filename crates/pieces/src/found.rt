@@ -1,4 +1,5 @@
 // What the readers of pieces answer.
+use report::report::Report;
 
 // `Short` where the bytes only begin what is wanted, `Unknown` where nothing that is wanted begins so.
 #[derive(Clone, Copy)]
@@ -28,4 +29,11 @@ pub struct Ended {
 pub struct Letter {
     pub code: char,
     pub next: usize,
+}
+
+// A report and how many bytes it took.
+#[derive(Clone, Copy)]
+pub struct Seen {
+    pub report: Report,
+    pub length: usize,
 }

@@ -11,11 +11,12 @@ use Rattle.report.specs.Meanings.{Meaning, means}
 use Rattle.pieces.specs.declared.found.Fault.{Fault}
 use Rattle.pieces.specs.declared.found.Fault.the-variants.{Short, Unknown}
 use Rattle.pieces.specs.Languages.{Takes, whole}
-use Rattle.reading.specs.declared.seen.ReadFault.{ReadFault}
-use Rattle.reading.specs.declared.seen.Seen.{Seen}
+use Rattle.reading.specs.declared.faults.ReadFault.{ReadFault}
+use Rattle.pieces.specs.declared.found.Seen.{Seen}
 use Rattle.reading.specs.Faults.{readFault}
 use Rattle.reading.specs.Filling.{Stores}
-use Rattle.reading.specs.Reading.{Begins, Fills, Spoken, Sees, textOf}
+use Rattle.pieces.specs.Reports.{Spoken, Sees}
+use Rattle.reading.specs.Reading.{Begins, Fills, textOf}
 
 -- a write at the seam of two lists
 set-seam : (xs ys : List ℕ) (y c : ℕ) (n : ℕ) → length xs ≡ n → set (xs ++ (y ∷ ys)) n c ≡ (xs ++ (c ∷ [])) ++ ys

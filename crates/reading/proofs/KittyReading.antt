@@ -25,7 +25,7 @@ use Rattle.pieces.proofs.Stages.{Stage}
 use Rattle.sequences.specs.Parts.{AtNumber}
 use Rattle.sequences.proofs.SequenceLaws.{chosen}
 use Rattle.reading.specs.Kitty.{AtFlags, afterFlags, shortForm}
-use Rattle.reading.specs.Reading.{Spoken}
+use Rattle.pieces.specs.Reports.{Spoken}
 
 abbrev InKitty : List ℕ → Meaning → Type 0
 InKitty = Spoken kittyBytes

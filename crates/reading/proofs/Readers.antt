@@ -10,9 +10,9 @@ use Rattle.std.specs.declared.result.Result.the-variants.{Ok, Err}
 use Rattle.std.proofs.shelf.Lists.{append-assoc}
 use Rattle.report.specs.Meanings.{Meaning, Valid, Clear, means}
 use Rattle.dialect.proofs.StreamLaws.{fronts}
-use Rattle.reading.specs.declared.seen.ReadFault.{ReadFault}
-use Rattle.reading.specs.declared.seen.ReadFault.the-variants.{Short, Unknown, Narrow}
-use Rattle.reading.specs.declared.seen.Seen.{Seen}
+use Rattle.reading.specs.declared.faults.ReadFault.{ReadFault}
+use Rattle.reading.specs.declared.faults.ReadFault.the-variants.{Short, Unknown, Narrow}
+use Rattle.pieces.specs.declared.found.Seen.{Seen}
 use Rattle.reading.specs.Once.{Answers, OneAnswer, Returns}
 use Rattle.reading.specs.Reading.{Begins, Breaks, Fills, textOf}
 

@@ -2,8 +2,8 @@
 use Prim.Native.Nat.{ℕ}
 use Rattle.pieces.specs.declared.found.Fault.{Fault}
 use Rattle.pieces.specs.declared.found.Fault.the-variants.{Short, Unknown}
-use Rattle.reading.specs.declared.seen.ReadFault.{ReadFault}
-use Rattle.reading.specs.declared.seen.ReadFault.the-variants.{Short as TooShort, Unknown as NotKnown, Narrow}
+use Rattle.reading.specs.declared.faults.ReadFault.{ReadFault}
+use Rattle.reading.specs.declared.faults.ReadFault.the-variants.{Short as TooShort, Unknown as NotKnown, Narrow}
 
 abbrev pub faultNumber : ReadFault → ℕ
 faultNumber TooShort = 11

@@ -8,9 +8,9 @@ use Rattle.std.specs.declared.result.Result.{Result}
 use Rattle.std.specs.declared.result.Result.the-variants.{Ok, Err}
 use Rattle.report.specs.Meanings.{means}
 use Rattle.pieces.specs.declared.found.Fault.{Fault}
-use Rattle.reading.specs.declared.seen.ReadFault.{ReadFault}
-use Rattle.reading.specs.declared.seen.ReadFault.the-variants.{Narrow}
-use Rattle.reading.specs.declared.seen.Seen.{Seen}
+use Rattle.reading.specs.declared.faults.ReadFault.{ReadFault}
+use Rattle.reading.specs.declared.faults.ReadFault.the-variants.{Narrow}
+use Rattle.pieces.specs.declared.found.Seen.{Seen}
 use Rattle.reading.specs.Faults.{readFault}
 use Rattle.reading.specs.Reading.{textOf}
 

@@ -6,10 +6,10 @@ use lib.ListN.{length}
 use Rattle.std.specs.declared.result.Result.{Result}
 use Rattle.std.specs.declared.result.Result.the-variants.{Ok, Err}
 use Rattle.report.specs.Meanings.{Meaning, means}
-use Rattle.reading.specs.declared.seen.ReadFault.{ReadFault}
-use Rattle.reading.specs.declared.seen.ReadFault.the-variants.{Short, Unknown, Narrow}
-use Rattle.reading.specs.declared.seen.Seen.{Seen}
-use Rattle.reading.specs.Reading.{Readable, Begins, Breaks, Fills, textOf}
+use Rattle.reading.specs.declared.faults.ReadFault.{ReadFault}
+use Rattle.reading.specs.declared.faults.ReadFault.the-variants.{Short, Unknown, Narrow}
+use Rattle.pieces.specs.declared.found.Seen.{Seen}
+use Rattle.reading.specs.Reading.{Begins, Breaks, Fills, textOf}
 
 -- the report was found
 abbrev pub Returns : Meaning → Result Seen ReadFault → Type 0

@@ -5,12 +5,11 @@ use Prim.Native.Nat.{ℕ, _≤_, _<_}
 use lib.ListN.{length, drop}
 use Rattle.std.specs.declared.result.Result.{Result}
 use Rattle.std.specs.declared.result.Result.the-variants.{Ok, Err}
-use Rattle.report.specs.Meanings.{Meaning, Valid, Clear, means, text, old, answer, sequence}
-use Rattle.pieces.specs.declared.found.Fault.{Fault}
-use Rattle.pieces.specs.Says.{Says}
-use Rattle.reading.specs.declared.seen.ReadFault.{ReadFault}
-use Rattle.reading.specs.declared.seen.ReadFault.the-variants.{Short, Unknown, Narrow}
-use Rattle.reading.specs.declared.seen.Seen.{Seen}
+use Rattle.report.specs.Meanings.{Meaning, means, text, old, answer, sequence}
+use Rattle.pieces.specs.declared.found.Seen.{Seen}
+use Rattle.pieces.specs.Reports.{Readable}
+use Rattle.reading.specs.declared.faults.ReadFault.{ReadFault}
+use Rattle.reading.specs.declared.faults.ReadFault.the-variants.{Short, Unknown, Narrow}
 
 -- the text that goes to the caller's row
 abbrev pub textOf : Meaning → List ℕ
@@ -18,10 +17,6 @@ textOf (text c) = []
 textOf (old c) = []
 textOf (answer n) = []
 textOf (sequence f) = f .text
-
--- the reports that a reader takes
-abbrev pub Readable : Meaning → Type 0
-Readable m = Valid m × Clear m
 
 module _ (bytes : Meaning → List ℕ) where
   -- the given bytes begin with those of the clear report m
@@ -37,10 +32,3 @@ module _ (bytes : Meaning → List ℕ) where
   Fills given before after (Err Short) = ((m : Meaning) × Breaks given m) × (after ≡ before)
   Fills given before after (Err Unknown) = ((m : Meaning) → Begins given m → ⊥) × ((m : Meaning) → Breaks given m → ⊥) × (after ≡ before)
   Fills given before after (Err Narrow) = ((m : Meaning) × Begins given m × (length before < length (textOf m))) × (after ≡ before)
-
-  -- the clear reports of a dialect as a language
-  abbrev pub Spoken : List ℕ → Meaning → Type 0
-  Spoken s m = Readable m × (s ≡ bytes m)
-
-abbrev pub Sees : (List ℕ → Meaning → Type 0) → List ℕ → ℕ → Result Seen Fault → Type 0
-Sees L given at r = Says L (λ x. means (x .report)) (λ x. x .length) given at r

@@ -2,10 +2,10 @@
 ghost use Rattle.report.specs.Meanings.{characters, means};
 ghost use Rattle.reading.specs.Reading.{textOf};
 ghost use Rattle.reading.specs.Filling.{Filled, Stores};
-use crate::seen::ReadFault;
-use crate::seen::ReadFaultFromFault;
-use crate::seen::Seen;
+use crate::faults::ReadFault;
+use crate::faults::ReadFaultFromFault;
 use pieces::found::Fault;
+use pieces::found::Seen;
 use report::report::Report;
 use report::text::Text;
 

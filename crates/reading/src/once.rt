@@ -4,10 +4,10 @@ ghost use lib.ListN.{length};
 ghost use Rattle.report.specs.Meanings.{Clear, means};
 ghost use Rattle.reading.specs.Once.{OneAnswer, Returns};
 ghost use Rattle.reading.specs.Reading.{Fills, textOf};
+use crate::faults::ReadFault;
 use crate::reader::Reader;
-use crate::seen::ReadFault;
-use crate::seen::Seen;
 use dialect::dialect::Dialect;
+use pieces::found::Seen;
 use report::report::Report;
 
 // Given bytes have one answer, so each answer comes exactly where its condition holds.

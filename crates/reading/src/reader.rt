@@ -1,8 +1,8 @@
 // What a reader of a dialect is.
 ghost use Rattle.reading.specs.Reading.{Fills};
-use crate::seen::ReadFault;
-use crate::seen::Seen;
+use crate::faults::ReadFault;
 use dialect::dialect::Dialect;
+use pieces::found::Seen;
 
 pub trait Reader: Dialect {
     // The first clear report of the given bytes; its text goes to the front of `text`, whose rest stays.

@@ -1,6 +1,6 @@
 -- The text of a sequence, and its final byte.
 use mathlib.Core.Path.{_≡_, refl, sym, ap, _∙_, subst}
-use mathlib.Core.Bool.{true, false, cond, _&&_}
+use mathlib.Core.Bool.{Bool, true, false, cond, _&&_}
 use mathlib.Core.List.{List, [], _∷_, _++_}
 use mathlib.Core.Logic.{_⊎_, inl, inr}
 use Prim.Native.Nat.{ℕ, _+_, _*_, _≤_, _<_}
@@ -21,6 +21,7 @@ use Rattle.report.specs.declared.ending.Last.{Last}
 use Rattle.report.specs.declared.ending.Last.the-variants.{U, Tilde, Up, Down, Right, Left, Begin, End, Home}
 use Rattle.report.specs.Made.{parted}
 use Rattle.report.specs.Meanings.{Fields, Sound, Suits}
+use Rattle.report.specs.Pushes.{Pushed}
 use Rattle.report.proofs.Rows.{scalars-end}
 use Rattle.dialect.specs.Endings.{lastByte}
 use Rattle.dialect.specs.KittyBytes.{optional, further, typed}
@@ -37,6 +38,11 @@ use Rattle.sequences.specs.declared.told.Head.{Head}
 use Rattle.sequences.specs.declared.told.Told.{Told}
 use Rattle.sequences.specs.Parts.{Long, Headed, AtClosing, AtText, AtEnd, afterCharacter, Started, filled, Tells, Makes}
 use Rattle.sequences.proofs.SequenceLaws.{chosen, long-u}
+
+-- a character more, where there is room
+pub pushed : (c n m : ℕ) (cs ds : List ℕ) (b : Bool) → n < 32 → Pushed c n cs m ds b → (m ≡ n + 1) × (ds ≡ cs ++ c ∷ [])
+pushed c n m cs ds true l p = (p .1, p .2)
+pushed c n m cs ds false l p = absurd (omega (arith, p .0))
 
 pub scalars-at : (cs : List ℕ) (c : ℕ) (ds : List ℕ) → scalars (cs ++ (c ∷ ds)) ≡ true → scalar c ≡ true
 scalars-at [] c ds v = and-parts (scalar c) (scalars ds) v .0

@@ -4,6 +4,7 @@ ghost use Prim.Native.Nat.{_≤_};
 ghost use lib.ListN.{length};
 ghost use Rattle.report.specs.Meanings.{Coded, characters};
 ghost use Rattle.sequences.specs.Parts.{AtNumber, AtShifted, AtBase, AtSum, AtEvent, AtMark, AtClosing, AtText, Started, Tells, Makes, CharacterFor, EventFor, filled};
+use crate::making::sequence_from;
 use crate::told::Head;
 use crate::told::Told;
 use dialect::endings::direction_of;
@@ -16,7 +17,6 @@ use pieces::found::Range;
 use pieces::octets::octet;
 use report::ending::Direction;
 use report::ending::Last;
-use report::making::sequence_of;
 use report::text::Text;
 
 // The character with that number, if there is one.
@@ -44,14 +44,7 @@ fn event_of(digit: u8) -> Option<Direction>
 fn sequence(head: Head, last: Last, text: Text, next: usize) -> Result<Told, Fault>
     ensures { λ r. ⌜ Makes (filled head last (characters text)) next r ⌝ }
 {
-    let Head {
-        number,
-        shifted,
-        base,
-        sum,
-        direction,
-    } = head;
-    match sequence_of(number, shifted, base, sum, direction, last, text) {
+    match sequence_from(head, last, text) {
         None => Err(Fault::Unknown),
         Some(sequence) => {
             if is_plain(&sequence) {
@@ -97,8 +90,8 @@ fn read_closing(bytes: &[u8], at: usize, head: Head, mark: u8) -> Result<Told, F
         return read_text(bytes, at, head);
     }
     match last_of(mark) {
-        None => Err(Fault::Unknown),
         Some(last) => sequence(head, last, Text::none(), at),
+        _ => Err(Fault::Unknown),
     }
 }
 

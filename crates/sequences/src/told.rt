@@ -1,4 +1,4 @@
-// What the parts of the reader pass on.
+// What the parts of a reader of sequences pass on.
 use report::ending::Direction;
 use report::sequence::Sequence;
 

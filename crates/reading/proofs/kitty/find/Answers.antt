@@ -2,29 +2,23 @@ use mathlib.Core.Path.{_≡_, refl, sym, ap, _∙_, subst}
 use mathlib.Core.Bool.{Bool, true, false}
 use mathlib.Core.List.{List, [], _∷_, _++_}
 use Prim.Native.Nat.{ℕ, _≤_}
-use lib.ListN.{length, take, drop}
-use Rattle.std.specs.Lexical.{Matches}
-use Rattle.std.specs.Orderings.{Decides}
+use lib.ListN.{length, drop}
 use Rattle.std.proofs.shelf.Equals.{starts-is}
-use Rattle.std.proofs.shelf.Tests.{both-ways}
 use Rattle.report.specs.declared.report.Report.the-variants.{Text, Sequence}
 use Rattle.report.specs.Meanings.{Meaning, Fields, text, sequence, means, fields}
 use Rattle.dialect.specs.KittyBytes.{kittyBytes}
 use Rattle.pieces.specs.declared.found.Letter.{Letter}
 use Rattle.pieces.specs.Languages.{Takes, whole, part}
 use Rattle.pieces.specs.Letters.{Characters}
+use Rattle.pieces.proofs.Fronts.{fails}
 use Rattle.pieces.proofs.Chains.{embeds-break, embeds-whole, embeds-same}
 use Rattle.sequences.specs.declared.told.Told.{Told}
 use Rattle.sequences.specs.Parts.{AtNumber}
-use Rattle.reading.specs.declared.seen.Seen.{Seen}
+use Rattle.pieces.specs.declared.found.Seen.{Seen}
 use Rattle.reading.specs.Kitty.{AtFlags, shortForm}
-use Rattle.reading.specs.Reading.{Spoken}
+use Rattle.pieces.specs.Reports.{Spoken}
 use Rattle.reading.proofs.KittyReading.{part-front, whole-short, number-to, number-from, flags-to, flags-from, letter-to, letter-from}
 use Rattle.reading.proofs.kitty.find.Needs as need
-
--- a test for a front that failed
-fails : (s p : List ℕ) (r : Bool) → Matches (λ (a b : ℕ) (t : Bool). Decides t (a ≡ b)) p (take (length p) s) r → r ≡ false → (v : List ℕ) → p ++ v ≡ s → ⊥
-fails s p r m e v h = both-ways r e (starts-is s p r m .1 v (sym h))
 
 pub returns-then-starts-with : need.returns-then-starts-with
 returns-then-starts-with c =

@@ -2,7 +2,7 @@ use mathlib.Core.Path.{refl}
 use Rattle.std.specs.declared.option.Option.the-variants.{Some, None}
 use Rattle.report.specs.Meanings.{means}
 use Rattle.pieces.proofs.Stages.{stage-break, stage-stops}
-use Rattle.reading.specs.declared.seen.Seen.{Seen}
+use Rattle.pieces.specs.declared.found.Seen.{Seen}
 use Rattle.reading.proofs.KittyReading.{flags-stage, flags-none}
 use Rattle.reading.proofs.kitty.read_flags.Needs as need
 

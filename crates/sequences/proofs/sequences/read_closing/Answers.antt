@@ -14,8 +14,8 @@ returns-then-mark-eq59 c =
     let r = tells-same (AtText h []) (AtClosing h 59) (text-closing h) (closing-text h) (c .args .bytes .now) (c .args .at) (c .read-text .result) (c .read-text .ensures) in
     subst (λ b. Tells (AtClosing h b) (c .args .bytes .now) (c .args .at) (c .read-text .result)) (sym (c .if-mark-eq59 .taken)) r
 
-pub returns-in-None : need.returns-in-None
-returns-in-None c = closing-none (c .args .head) (c .args .mark) (c .args .bytes .now) (c .args .at) (c .if-mark-eq59 .left) (c .in-None .ensures tt)
+pub returns-in-rest : need.returns-in-rest
+returns-in-rest c = closing-none (c .args .head) (c .args .mark) (c .args .bytes .now) (c .args .at) (c .if-mark-eq59 .left) (c .in-rest .ensures tt)
 
 pub returns-in-Some : need.returns-in-Some
 returns-in-Some c =

@@ -1,5 +1,4 @@
 use mathlib.Core.Path.{_≡_, refl, ap, _∙_, sym, subst}
-use mathlib.Core.Bool.{Bool, true, false}
 use mathlib.Core.List.{List, [], _∷_, _++_}
 use Prim.Native.Nat.{ℕ, _+_, _<_, _≤_}
 use native.Mathlib.Omega.{arith}
@@ -10,7 +9,6 @@ use Rattle.std.specs.declared.result.Result.the-variants.{Err}
 use Rattle.report.specs.declared.ending.Last.the-variants.{U}
 use Rattle.report.specs.declared.text.Text.{Text}
 use Rattle.report.specs.Meanings.{characters}
-use Rattle.report.specs.Pushes.{Pushed}
 use Rattle.dialect.proofs.Typing.{length-characters}
 use Rattle.pieces.specs.declared.found.Fault.{Fault}
 use Rattle.pieces.specs.declared.found.Fault.the-variants.{Unknown}
@@ -20,17 +18,12 @@ use Rattle.sequences.specs.declared.told.Head.{Head}
 use Rattle.sequences.specs.declared.told.Told.{Told}
 use Rattle.sequences.specs.Parts.{AtText, AtEnd, Started, Makes, Tells, filled, afterCharacter}
 use Rattle.sequences.proofs.Telling.{stage-break, stage-goes, stage-stops}
-use Rattle.sequences.proofs.TextLaws.{text-stage, text-full, text-none, text-strange, text-made}
+use Rattle.sequences.proofs.TextLaws.{pushed, text-stage, text-full, text-none, text-strange, text-made}
 use Rattle.sequences.proofs.sequences.read_text.Needs as need
 
 -- the next character of a text that has room
 next : (h : Head) (t : Text) → Started h → t .count < 32 → Stage Code (AtText h (characters t)) (afterCharacter h (characters t))
 next h t a l = text-stage h (characters t) a (t .characters) (omega (arith, length-characters t))
-
--- there was room
-pushed : (c n m : ℕ) (cs ds : List ℕ) (b : Bool) → n < 32 → Pushed c n cs m ds b → (m ≡ n + 1) × (ds ≡ cs ++ c ∷ [])
-pushed c n m cs ds true l p = (p .1, p .2)
-pushed c n m cs ds false l p = absurd (omega (arith, p .0))
 
 pub loop-holds : need.loop-holds
 loop-holds c = (c .none-text .ensures, λ r p. subst (λ cs. Tells (AtText (c .args .head) cs) (c .args .bytes .now) (c .args .at) r) (none (c .none-text .result) (c .none-text .ensures)) p)

@@ -1,15 +1,7 @@
-// What a reader answers.
+// The faults of a reader.
 ghost use mathlib.Core.Path.{_≡_};
 ghost use Rattle.reading.specs.Faults.{faultNumber, readFault};
 use pieces::found::Fault;
-use report::report::Report;
-
-// A report and how many bytes it took.
-#[derive(Clone, Copy)]
-pub struct Seen {
-    pub report: Report,
-    pub length: usize,
-}
 
 // `Short` where the bytes only begin a report, `Unknown` where no report begins so, `Narrow` where its text has no room.
 #[derive(Clone, Copy)]

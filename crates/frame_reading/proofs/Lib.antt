@@ -1,0 +1,4 @@
+pub mod BodyLaws
+pub mod FrameTelling
+pub mod HeadLaws
+pub mod QuadLaws

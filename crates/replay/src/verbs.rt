@@ -56,6 +56,7 @@ use names::fault::NameFault;
 use names::phys_names::read_phys_name;
 use normal::KeyEventNormal;
 use normal::Normal;
+use reading::frames::FramesReader;
 use reading::kitty::KittyReader;
 use std::io;
 use std::io::Write;
@@ -433,6 +434,7 @@ fn answer_dialect<W: Write>(
         ("kitty", DialectVerb::Write) => answer_write(out, &Kitty, rest),
         ("frame", DialectVerb::Write) => answer_write(out, &Frames, rest),
         ("kitty", DialectVerb::Read) => answer_read(out, &Kitty, rest, scratch),
+        ("frame", DialectVerb::Read) => answer_read(out, &Frames, rest, scratch),
         _ => put_bad(out, Bad::Words),
     }
 }

@@ -1,13 +1,17 @@
 // The line that is printed for a step of the pass.
 use crate::pass::Step;
 use crate::pass::event_of;
-use dialect::kitty::Kitty;
-use dialect::kitty::KittyDialect;
+use dialect::endings::last_byte;
 use encoding::encode;
 use events::fault::Fault;
 use input_types::flags::KittyKeyboardFlags;
 use layout::us::Us;
 use layout::us::UsLayout;
+use reading::faults::fault_number;
+use reading::reader::Reader;
+use report::ending::Direction;
+use report::report::Report;
+use report::sequence::Sequence;
 use std::io;
 
 // What is wrong with an event, in words.
@@ -52,18 +56,82 @@ fn readable(rt: &LibcRuntime, bytes: &[u8]) -> io::Result<()> {
     Ok(())
 }
 
-fn sent(rt: &LibcRuntime, bytes: &[u8]) -> io::Result<()> {
+fn code(rt: &LibcRuntime, name: &str, code: Option<u32>) -> io::Result<()> {
+    match code {
+        Some(n) => print!(rt, ", {name} {n}"),
+        None => Ok(()),
+    }
+}
+
+fn direction_word(direction: Direction) -> &'static str {
+    match direction {
+        Direction::Press => "press",
+        Direction::Release => "release",
+    }
+}
+
+fn sequence(rt: &LibcRuntime, s: &Sequence) -> io::Result<()> {
+    let number = s.number;
+    let last = last_byte(s.last) as char;
+    let sum = s.sum;
+    let direction = direction_word(s.direction);
+    print!(rt, "key {number} {last}, sum {sum}, {direction}")?;
+    code(rt, "shifted", s.shifted)?;
+    code(rt, "base", s.base)
+}
+
+fn typed(rt: &LibcRuntime, codes: &[u32]) -> io::Result<()> {
+    for c in codes {
+        print!(rt, " {c}")?;
+    }
+    Ok(())
+}
+
+// What the reader reads back from the bytes, with the text as it put it into its row.
+fn read_back<R: Reader>(rt: &LibcRuntime, reader: &R, bytes: &[u8]) -> io::Result<()> {
+    let mut row = [0u32; 32];
+    let text = &mut row[0..32];
+    let report = match reader.read(bytes, text) {
+        Ok(seen) => seen.report,
+        Err(fault) => {
+            let number = fault_number(fault);
+            return println!(rt, "  not read, {number}");
+        }
+    };
+    print!(rt, "  reads ")?;
+    match &report {
+        Report::Text(c) | Report::Old(c) => {
+            let n = c.code() as u32;
+            print!(rt, "text {n}")?;
+        }
+        Report::Answer(flags) => {
+            let bits = flags.bits();
+            print!(rt, "answer {bits}")?;
+        }
+        Report::Sequence(s) => {
+            sequence(rt, s)?;
+            let count = s.text.as_slice().len();
+            if 0 < count && count <= 32 {
+                print!(rt, ", text")?;
+                typed(rt, &text[0..count])?;
+            }
+        }
+    }
+    println!(rt, "")
+}
+
+fn sent<R: Reader>(rt: &LibcRuntime, reader: &R, bytes: &[u8]) -> io::Result<()> {
     if bytes.is_empty() {
         return println!(rt, " silent");
     }
     hex(rt, bytes)?;
     print!(rt, "  ")?;
     readable(rt, bytes)?;
-    println!(rt, "")
+    read_back(rt, reader, bytes)
 }
 
 // The bytes that an event sends under its settings on a US keyboard, or why it is refused.
-pub fn line(rt: &LibcRuntime, step: &Step) -> io::Result<()> {
+pub fn line<R: Reader>(rt: &LibcRuntime, reader: &R, step: &Step) -> io::Result<()> {
     let name = step.name;
     let bits = step.flags;
     print!(rt, "{name}, flags {bits}:")?;
@@ -72,8 +140,8 @@ pub fn line(rt: &LibcRuntime, step: &Step) -> io::Result<()> {
     };
     let event = event_of(step);
     let mut out = [0u8; 512];
-    match encode(&Us, &Kitty, flags, &event, &mut out) {
-        Ok(count) => sent(rt, &out[0..count]),
+    match encode(&Us, reader, flags, &event, &mut out) {
+        Ok(count) => sent(rt, reader, &out[0..count]),
         Err(fault) => refusal(rt, fault),
     }
 }

@@ -291,7 +291,7 @@ pub const REFUSED: [Step; 7] = [
 ];
 
 // The event of a step.
-pub fn event_of(step: &Step) -> KeyEvent<'static> {
+pub(crate) fn event_of(step: &Step) -> KeyEvent<'static> {
     let raw = match step.raw {
         Some(raw) => Some(RawKeyEvent {
             key: raw.key,

@@ -131,7 +131,7 @@ fn sent<R: Reader>(rt: &LibcRuntime, reader: &R, bytes: &[u8]) -> io::Result<()>
 }
 
 // The bytes that an event sends under its settings on a US keyboard, or why it is refused.
-pub fn line<R: Reader>(rt: &LibcRuntime, reader: &R, step: &Step) -> io::Result<()> {
+pub(crate) fn line<R: Reader>(rt: &LibcRuntime, reader: &R, step: &Step) -> io::Result<()> {
     let name = step.name;
     let bits = step.flags;
     print!(rt, "{name}, flags {bits}:")?;

@@ -59,7 +59,7 @@ fn part_words<'a>(words: Words<'a>) -> Result<(PartWords<'a>, Words<'a>), Bad> {
     Ok((part, rest))
 }
 
-pub fn optional_place(word: &str) -> Result<Option<PhysKeyCode>, Bad> {
+pub(crate) fn optional_place(word: &str) -> Result<Option<PhysKeyCode>, Bad> {
     if word == "-" {
         Ok(None)
     } else {
@@ -67,7 +67,7 @@ pub fn optional_place(word: &str) -> Result<Option<PhysKeyCode>, Bad> {
     }
 }
 
-pub fn event_words<'a>(words: Words<'a>) -> Result<EventWords<'a>, Bad> {
+pub(crate) fn event_words<'a>(words: Words<'a>) -> Result<EventWords<'a>, Bad> {
     let (way, rest) = words.next()?;
     let down = direction(way)?;
     let (own, rest) = part_words(rest)?;
@@ -91,14 +91,14 @@ pub fn event_words<'a>(words: Words<'a>) -> Result<EventWords<'a>, Bad> {
 }
 
 // Puts the bytes of a composed key where the key can borrow them.
-pub fn fill(key: &str, into: &mut Vec<u8>) -> Result<(), Bad> {
+pub(crate) fn fill(key: &str, into: &mut Vec<u8>) -> Result<(), Bad> {
     match after(key, "s:") {
         Some(bytes) => read_bytes(bytes, into),
         None => Ok(()),
     }
 }
 
-pub fn fill_scratch(words: &EventWords, scratch: &mut Scratch) -> Result<(), Bad> {
+pub(crate) fn fill_scratch(words: &EventWords, scratch: &mut Scratch) -> Result<(), Bad> {
     fill(words.own.key, &mut scratch.own)?;
     match words.raw {
         Some(raw) => fill(raw.key, &mut scratch.raw),
@@ -123,7 +123,7 @@ fn raw_event<'a>(
     })
 }
 
-pub fn event_of<'a>(
+pub(crate) fn event_of<'a>(
     words: &EventWords,
     own_text: &'a [u8],
     raw_text: &'a [u8],

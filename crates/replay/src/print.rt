@@ -11,21 +11,21 @@ use std::io::Write;
 
 const HEX: [u8; 16] = *b"0123456789abcdef";
 
-pub fn put<W: Write>(out: &mut W, text: &str) -> io::Result<()> {
+pub(crate) fn put<W: Write>(out: &mut W, text: &str) -> io::Result<()> {
     out.write_all(text.as_bytes())
 }
 
-pub fn put_bad<W: Write>(out: &mut W, bad: Bad) -> io::Result<()> {
+pub(crate) fn put_bad<W: Write>(out: &mut W, bad: Bad) -> io::Result<()> {
     put(out, "bad ")?;
     put(out, bad.reason())
 }
 
-pub fn put_declined<W: Write>(out: &mut W, number: u8, place: usize) -> io::Result<()> {
+pub(crate) fn put_declined<W: Write>(out: &mut W, number: u8, place: usize) -> io::Result<()> {
     write!(out, "declined {number} {place}")
 }
 
 // Bytes in hex; a dash for none.
-pub fn put_bytes<W: Write>(out: &mut W, bytes: &[u8]) -> io::Result<()> {
+pub(crate) fn put_bytes<W: Write>(out: &mut W, bytes: &[u8]) -> io::Result<()> {
     if bytes.is_empty() {
         return put(out, "-");
     }
@@ -36,24 +36,24 @@ pub fn put_bytes<W: Write>(out: &mut W, bytes: &[u8]) -> io::Result<()> {
     Ok(())
 }
 
-pub fn put_char<W: Write>(out: &mut W, c: char) -> io::Result<()> {
+pub(crate) fn put_char<W: Write>(out: &mut W, c: char) -> io::Result<()> {
     let code = c as u32;
     write!(out, "{code:x}")
 }
 
-pub fn put_optional_char<W: Write>(out: &mut W, c: Option<char>) -> io::Result<()> {
+pub(crate) fn put_optional_char<W: Write>(out: &mut W, c: Option<char>) -> io::Result<()> {
     match c {
         Some(c) => put_char(out, c),
         None => put(out, "none"),
     }
 }
 
-pub fn put_truth<W: Write>(out: &mut W, truth: bool) -> io::Result<()> {
+pub(crate) fn put_truth<W: Write>(out: &mut W, truth: bool) -> io::Result<()> {
     put(out, if truth { "true" } else { "false" })
 }
 
 // A place by the name of its case: a letter is a capital, a digit stands after K.
-pub fn put_place<W: Write>(out: &mut W, place: PhysKeyCode) -> io::Result<()> {
+pub(crate) fn put_place<W: Write>(out: &mut W, place: PhysKeyCode) -> io::Result<()> {
     let name = phys_name(place);
     match name.as_bytes() {
         [b] if b.is_ascii_digit() => {
@@ -65,7 +65,7 @@ pub fn put_place<W: Write>(out: &mut W, place: PhysKeyCode) -> io::Result<()> {
     }
 }
 
-pub fn put_optional_place<W: Write>(
+pub(crate) fn put_optional_place<W: Write>(
     out: &mut W,
     place: Option<PhysKeyCode>,
     otherwise: &str,
@@ -76,7 +76,7 @@ pub fn put_optional_place<W: Write>(
     }
 }
 
-pub fn put_key<W: Write>(out: &mut W, key: KeyCode) -> io::Result<()> {
+pub(crate) fn put_key<W: Write>(out: &mut W, key: KeyCode) -> io::Result<()> {
     match key {
         KeyCode::Char(c) => {
             put(out, "c:")?;
@@ -106,7 +106,7 @@ fn put_raw<W: Write>(out: &mut W, raw: &RawKeyEvent) -> io::Result<()> {
     put_optional_place(out, raw.phys_code, "-")
 }
 
-pub fn put_event<W: Write>(out: &mut W, event: &KeyEvent) -> io::Result<()> {
+pub(crate) fn put_event<W: Write>(out: &mut W, event: &KeyEvent) -> io::Result<()> {
     put(out, if event.key_is_down { "d " } else { "u " })?;
     put_key(out, event.key)?;
     let modifiers = event.modifiers.bits;

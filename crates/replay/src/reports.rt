@@ -28,7 +28,7 @@ use report::text::Text;
 use std::io;
 use std::io::Write;
 
-pub fn flags_in(word: &str) -> Result<KittyKeyboardFlags, Bad> {
+pub(crate) fn flags_in(word: &str) -> Result<KittyKeyboardFlags, Bad> {
     match KittyKeyboardFlags::from_bits(read_bits(word)?) {
         Some(flags) => Ok(flags),
         None => Err(Bad::Bits),
@@ -122,7 +122,7 @@ fn report_in(words: Words) -> Result<Report, Bad> {
     }
 }
 
-pub fn answer_write<W: Write, D: Dialect>(
+pub(crate) fn answer_write<W: Write, D: Dialect>(
     out: &mut W,
     dialect: &D,
     words: Words,
@@ -236,7 +236,7 @@ fn bytes_and_room(words: Words, scratch: &mut Scratch) -> Result<usize, Bad> {
     Ok(read_number(rest.last()?)? as usize)
 }
 
-pub fn answer_read<W: Write, R: Reader>(
+pub(crate) fn answer_read<W: Write, R: Reader>(
     out: &mut W,
     reader: &R,
     words: Words,

@@ -367,7 +367,7 @@ fn answer_code<W: Write>(out: &mut W, words: Words) -> io::Result<()> {
     }
 }
 
-pub fn answer<W: Write>(out: &mut W, line: &str, scratch: &mut Scratch) -> io::Result<()> {
+pub(crate) fn answer<W: Write>(out: &mut W, line: &str, scratch: &mut Scratch) -> io::Result<()> {
     let (verb, words) = match Words::new(line).next() {
         Ok(parts) => parts,
         Err(bad) => return put_bad(out, bad),

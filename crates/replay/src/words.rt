@@ -22,7 +22,7 @@ pub enum Bad {
 }
 
 impl Bad {
-    pub fn reason(self) -> &'static str {
+    pub(crate) fn reason(self) -> &'static str {
         match self {
             Bad::Verb => "verb",
             Bad::Words => "words",
@@ -51,16 +51,16 @@ pub struct Words<'a> {
 }
 
 impl<'a> Words<'a> {
-    pub fn new(line: &'a str) -> Words<'a> {
+    pub(crate) fn new(line: &'a str) -> Words<'a> {
         Words { rest: line }
     }
 
-    pub fn is_done(&self) -> bool {
+    pub(crate) fn is_done(&self) -> bool {
         self.rest.is_empty()
     }
 
     // The next word and what follows it.
-    pub fn next(self) -> Result<(&'a str, Words<'a>), Bad> {
+    pub(crate) fn next(self) -> Result<(&'a str, Words<'a>), Bad> {
         if self.rest.is_empty() {
             return Err(Bad::Words);
         }
@@ -71,7 +71,7 @@ impl<'a> Words<'a> {
     }
 
     // The last word.
-    pub fn last(self) -> Result<&'a str, Bad> {
+    pub(crate) fn last(self) -> Result<&'a str, Bad> {
         let (word, rest) = self.next()?;
         if rest.is_done() {
             Ok(word)
@@ -91,7 +91,7 @@ fn hex_digit(b: u8) -> Result<u8, Bad> {
 }
 
 // Bytes in hex go to `into`; a dash stands for none.
-pub fn read_bytes(word: &str, into: &mut Vec<u8>) -> Result<(), Bad> {
+pub(crate) fn read_bytes(word: &str, into: &mut Vec<u8>) -> Result<(), Bad> {
     into.clear();
     if word == "-" {
         return Ok(());
@@ -114,7 +114,7 @@ pub fn read_bytes(word: &str, into: &mut Vec<u8>) -> Result<(), Bad> {
 }
 
 // A character by its code in hex.
-pub fn read_char(word: &str) -> Result<char, Bad> {
+pub(crate) fn read_char(word: &str) -> Result<char, Bad> {
     let mut code: u32 = 0;
     for b in word.bytes() {
         let digit = hex_digit(b)?;
@@ -127,7 +127,7 @@ pub fn read_char(word: &str) -> Result<char, Bad> {
 }
 
 // A key whose text, if it is composed, is in `text`.
-pub fn read_key<'a>(word: &str, text: &'a [u8]) -> Result<KeyCode<'a>, Bad> {
+pub(crate) fn read_key<'a>(word: &str, text: &'a [u8]) -> Result<KeyCode<'a>, Bad> {
     if let Some(code) = after(word, "c:") {
         return Ok(KeyCode::Char(read_char(code)?));
     }
@@ -169,21 +169,21 @@ fn by_own_name(word: &str) -> Result<KeyCode<'static>, Bad> {
     }
 }
 
-pub fn read_number(word: &str) -> Result<u32, Bad> {
+pub(crate) fn read_number(word: &str) -> Result<u32, Bad> {
     match word.parse::<u32>() {
         Ok(n) => Ok(n),
         Err(_) => Err(Bad::Number),
     }
 }
 
-pub fn read_small(word: &str) -> Result<u8, Bad> {
+pub(crate) fn read_small(word: &str) -> Result<u8, Bad> {
     match word.parse::<u8>() {
         Ok(n) => Ok(n),
         Err(_) => Err(Bad::Number),
     }
 }
 
-pub fn read_bits(word: &str) -> Result<u16, Bad> {
+pub(crate) fn read_bits(word: &str) -> Result<u16, Bad> {
     match word.parse::<u16>() {
         Ok(n) => Ok(n),
         Err(_) => Err(Bad::Bits),
@@ -191,7 +191,7 @@ pub fn read_bits(word: &str) -> Result<u16, Bad> {
 }
 
 // A place by the name of its case: a letter is a capital, a digit stands after K.
-pub fn read_place(word: &str) -> Result<PhysKeyCode, Bad> {
+pub(crate) fn read_place(word: &str) -> Result<PhysKeyCode, Bad> {
     match word {
         "F21" => return Ok(PhysKeyCode::F21),
         "F22" => return Ok(PhysKeyCode::F22),

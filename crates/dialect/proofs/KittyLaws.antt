@@ -2,11 +2,11 @@
 use mathlib.Core.Path.{_≡_, refl, sym, ap, _∙_, subst}
 use mathlib.Core.List.{List, [], _∷_, _++_}
 use mathlib.Core.Bool.{Bool, true, false, cond, _&&_}
-use Prim.Native.Nat.{ℕ, _+_, _*_, _^_, _≤_, _<_}
+use Prim.Native.Nat.{ℕ, _+_, _*_, _≤_}
 use native.Mathlib.Omega.{arith}
 use lib.Dec.{eqb}
-use lib.ListN.{length, getD, length-append}
-use lib.Utf8.{scalar, scalars, scalar-fits, scalar-cases, encode}
+use lib.ListN.{length, length-append}
+use lib.Utf8.{scalar, scalars, scalar-cases, encode}
 use mathlib.Core.Logic.{inl, inr}
 use Rattle.std.specs.Text.{asciiDigit}
 use Rattle.std.specs.Written.{decimal}
@@ -16,11 +16,11 @@ use Rattle.std.proofs.shelf.Tests.{and-parts, eqb-true, eqb-false}
 use Rattle.std.proofs.shelf.Lists.{append-nil, append-assoc}
 use Rattle.std.proofs.shelf.Text.{encode-same, char-from-byte, length-encode, width-bounds}
 use Rattle.report.specs.declared.ending.Direction.{Direction}
-use Rattle.report.specs.declared.ending.Direction.the-variants.{Press, Release}
+use Rattle.report.specs.declared.ending.Direction.the-variants.{Press}
 use Rattle.report.specs.declared.ending.Last.{Last}
-use Rattle.report.specs.declared.ending.Last.the-variants.{U, Tilde, Up, Down, Right, Left, Begin, End, Home}
+use Rattle.report.specs.declared.ending.Last.the-variants.{Begin}
 use Rattle.report.specs.Made.{parted}
-use Rattle.report.specs.Meanings.{Meaning, Fields, Sound, Coded, Suits, Bare, Valid, Clear, text, old, answer, sequence}
+use Rattle.report.specs.Meanings.{Meaning, Fields, Sound, Coded, Suits, Valid, Clear, text, old, answer, sequence}
 use Rattle.dialect.specs.Endings.{directionNumber, isPress, isBegin, lastByte}
 use Rattle.dialect.specs.KittyBytes.{optional, alternates, event, further, typed, parts, plain, kittyBytes}
 use Rattle.dialect.proofs.EndingLaws.{direction-same, last-same, last-high, last-stops}

@@ -8,7 +8,7 @@ use lib.ListN.{length, length-append}
 use Rattle.std.specs.shelf.Lists.{joined}
 use Rattle.std.proofs.shelf.Lists.{append-cancel-left}
 use Rattle.report.specs.Meanings.{Meaning, Valid, Clear}
-use Rattle.dialect.specs.Streams.{AllClear, Tells}
+use Rattle.dialect.specs.Streams.{Tells}
 
 -- of two fronts of one list, one begins the other
 pub fronts : (x y t u : List ℕ) → x ++ t ≡ y ++ u → ((v : List ℕ) × (x ++ v ≡ y)) ⊎ ((v : List ℕ) × (y ++ v ≡ x))

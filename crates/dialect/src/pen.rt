@@ -1,5 +1,4 @@
 // Bytes put into a row of 512, one after another: each function answers the place after what it put.
-ghost use mathlib.Core.Path.{_≡_};
 ghost use mathlib.Core.List.{[], _∷_};
 ghost use Prim.Native.Nat.{_+_, _≤_, _<_};
 ghost use lib.ListN.{length};

@@ -1,8 +1,8 @@
 -- The parts of a frame, one after another.
 use mathlib.Core.Path.{_≡_, refl, sym, ap, _∙_, subst}
-use mathlib.Core.Bool.{Bool, true, false, _&&_}
+use mathlib.Core.Bool.{true}
 use mathlib.Core.List.{List, [], _∷_, _++_}
-use mathlib.Core.Logic.{_⊎_, inl, inr}
+use mathlib.Core.Logic.{inl, inr}
 use Prim.Native.Nat.{ℕ, zero, suc, _+_, _-_, _≤_, _<_}
 use native.Mathlib.Omega.{arith}
 use lib.ListN.{length, replicate, length-append, length-replicate}
@@ -12,7 +12,7 @@ use Rattle.std.specs.declared.option.Option.the-variants.{Some, None}
 use Rattle.std.specs.Options.{Cases}
 use Rattle.std.specs.shelf.Lists.{joined}
 use Rattle.std.proofs.shelf.Lists.{append-nil, append-assoc}
-use Rattle.std.proofs.shelf.Tests.{and-parts, and-from, or-cases, leb-true, le-leb, eqb-true, eq-eqb, or-left, or-right, not-true, not-from-false, eqb-false, ne-eqb, cases-eq}
+use Rattle.std.proofs.shelf.Tests.{and-parts, and-from, or-cases, leb-true, le-leb, eqb-true, or-left}
 use lib.Dec.{eqb, leb}
 use Rattle.report.specs.declared.ending.Direction.{Direction}
 use Rattle.report.specs.declared.ending.Direction.the-variants.{Press}
@@ -22,7 +22,7 @@ use Rattle.report.specs.Made.{parted}
 use Rattle.report.specs.Meanings.{Meaning, Fields, Sound, Coded, Suits, Bare, text, answer, sequence}
 use Rattle.dialect.specs.Endings.{directionNumber, lastByte}
 use Rattle.dialect.proofs.EndingLaws.{direction-same, direction-digit, last-same, last-byte}
-use Rattle.frames.specs.Framing.{le32, orNone, fieldBytes}
+use Rattle.frames.specs.Framing.{le32, orNone}
 use Rattle.frames.proofs.FrameLaws.{orNone-same}
 use Rattle.pieces.specs.Octets.{Octets}
 use Rattle.pieces.proofs.Chains.{Chain, opened}

@@ -1,11 +1,10 @@
 -- The length and the kind of a frame, and what follows them.
 use mathlib.Core.Path.{_≡_, refl, sym, ap, _∙_, subst}
-use mathlib.Core.Bool.{true}
 use mathlib.Core.List.{List, [], _∷_, _++_}
 use mathlib.Core.Logic.{inl, inr}
 use Prim.Native.Nat.{ℕ, _+_, _*_, _/_, _%_, _≤_, _<_}
 use native.Mathlib.Omega.{arith}
-use lib.ListN.{length, drop}
+use lib.ListN.{length}
 use Rattle.std.proofs.shelf.Lists.{append-nil}
 use lib.Dec.{eqb}
 use lib.Utf8.{scalar}
@@ -14,7 +13,7 @@ use Rattle.report.specs.declared.ending.Direction.the-variants.{Press}
 use Rattle.std.specs.declared.option.Option.the-variants.{None}
 use Rattle.report.specs.Meanings.{Meaning, Fields, text, old, answer, sequence}
 use Rattle.dialect.proofs.StreamLaws.{fronts}
-use Rattle.frames.specs.Framing.{le16, le32, fieldBytes, framed, frameBytes}
+use Rattle.frames.specs.Framing.{le32, fieldBytes, framed, frameBytes}
 use Rattle.frames.proofs.FrameLaws.{length-codes}
 use Rattle.pieces.specs.Languages.{Takes, part, nothing}
 use Rattle.pieces.specs.Octets.{Octets}

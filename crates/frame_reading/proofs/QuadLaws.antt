@@ -1,6 +1,6 @@
 -- Numbers of four bytes and their fronts.
-use mathlib.Core.Path.{_≡_, refl, sym, ap, _∙_, subst}
-use mathlib.Core.Bool.{Bool, true, false, cond, not, _&&_, _||_}
+use mathlib.Core.Path.{_≡_, refl, sym, ap, _∙_}
+use mathlib.Core.Bool.{true, false, cond, not, _&&_}
 use mathlib.Core.List.{List, [], _∷_, _++_}
 use mathlib.Core.Logic.{_⊎_, inl, inr}
 use Prim.Native.Nat.{ℕ, _+_, _-_, _*_, _/_, _%_, _^_, _≤_, _<_}
@@ -13,7 +13,7 @@ use Rattle.std.proofs.shelf.Tests.{leb-true, le-leb, lt-ltb, le-ltb, eqb-true, 
 use Rattle.dialect.proofs.KittyLaws.{scalar-coded}
 use Rattle.frames.specs.Framing.{le32}
 use Rattle.frames.proofs.FrameLaws.{le32-same}
-use Rattle.pieces.specs.Languages.{Taken, Takes, whole, part, nothing}
+use Rattle.pieces.specs.Languages.{Takes, whole, part, nothing}
 use Rattle.frame_reading.specs.declared.found.Rule.{Rule}
 use Rattle.frame_reading.specs.declared.found.Rule.the-variants.{Code, Optional, Scalar, Clear}
 use Rattle.frame_reading.specs.Quads.{ok, Quads}

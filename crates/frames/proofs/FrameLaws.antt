@@ -15,7 +15,7 @@ use Rattle.report.specs.Made.{parted}
 use Rattle.report.specs.Meanings.{Meaning, Fields, Sound, Coded, Valid, Clear, text, old, answer, sequence}
 use Rattle.dialect.specs.Endings.{directionNumber, lastByte}
 use Rattle.dialect.proofs.EndingLaws.{direction-same, last-same}
-use Rattle.frames.specs.Framing.{le16, le32, orNone, fieldBytes, framed, frameBytes}
+use Rattle.frames.specs.Framing.{le32, orNone, fieldBytes, framed, frameBytes}
 
 -- four bytes tell a number of 32 bits
 pub le32-same : (m n : ℕ) (t u : List ℕ) → m < 2 ^ 32 → n < 2 ^ 32 → le32 m ++ t ≡ le32 n ++ u → (m ≡ n) × (t ≡ u)

@@ -1,9 +1,9 @@
 -- A number of a range, one digit more at a time.
-use mathlib.Core.Path.{_≡_, refl, sym, ap, _∙_, subst}
+use mathlib.Core.Path.{_≡_, refl, sym, ap, _∙_}
 use mathlib.Core.Bool.{Bool, true, false, cond, _&&_}
 use mathlib.Core.List.{List, [], _∷_, _++_}
-use mathlib.Core.Logic.{_⊎_, inl, inr}
-use Prim.Native.Nat.{ℕ, _+_, _-_, _*_, _^_, _≤_, _<_}
+use mathlib.Core.Logic.{inl, inr}
+use Prim.Native.Nat.{ℕ, _+_, _-_, _*_, _≤_, _<_}
 use native.Mathlib.Omega.{arith}
 use lib.Dec.{ltb, leb}
 use lib.ListN.{length, drop, getD, length-append}
@@ -13,9 +13,9 @@ use Rattle.std.specs.Written.{decimal}
 use Rattle.std.specs.shelf.Text.{allDigits}
 use Rattle.std.specs.declared.option.Option.{Option}
 use Rattle.std.specs.declared.option.Option.the-variants.{Some, None}
-use Rattle.std.proofs.shelf.Decimals.{decimal-digit, decimal-some}
+use Rattle.std.proofs.shelf.Decimals.{decimal-digit}
 use Rattle.std.proofs.shelf.Lists.{append-nil, append-assoc, drop-more, drop-all}
-use Rattle.std.proofs.shelf.Tests.{cases-lt, cases-bool, and-parts, and-from, and-cases, both-ways, leb-false}
+use Rattle.std.proofs.shelf.Tests.{cases-lt, and-parts, and-from, and-cases, both-ways, leb-false}
 use Rattle.dialect.specs.KittyBytes.{optional}
 use Rattle.dialect.proofs.Numbers.{all-digits}
 use Rattle.pieces.specs.Languages.{Takes, whole, part, nothing}

@@ -6,6 +6,13 @@ ghost use Rattle.pieces.specs.Letters.{Two, Three, Four, Plain, Characters, Sp
 use crate::found::Fault;
 use crate::found::Letter;
 
+const ESC: u8 = 0x1b;
+
+// The surrogates, without their last six bits.
+const SURROGATES: u32 = 0x360;
+
+const PAST_SURROGATES: u32 = 0x380;
+
 fn letter(code: u32, next: usize) -> Letter
     requires { ⌜ Plain code ⌝ }
     ensures { λ r. ⌜ r .code ≡ code ⌝ ∗ ⌜ r .next ≡ next ⌝ }
@@ -55,8 +62,8 @@ fn three(bytes: &[u8]) -> Result<Letter, Fault>
     if front < 0x20 {
         return Err(Fault::Unknown);
     }
-    if 0x360 <= front {
-        if front < 0x380 {
+    if SURROGATES <= front {
+        if front < PAST_SURROGATES {
             return Err(Fault::Unknown);
         }
     }
@@ -127,7 +134,7 @@ pub fn read_letter(bytes: &[u8]) -> Result<Letter, Fault>
         return Err(Fault::Short);
     }
     let b = bytes[0];
-    if b == 0x1b {
+    if b == ESC {
         Err(Fault::Unknown)
     } else if b < 0x80 {
         Ok(Letter {

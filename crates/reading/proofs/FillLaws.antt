@@ -16,7 +16,7 @@ use Rattle.pieces.specs.declared.found.Seen.{Seen}
 use Rattle.reading.specs.Faults.{readFault}
 use Rattle.reading.specs.Filling.{Stores}
 use Rattle.pieces.specs.Reports.{Spoken, Sees}
-use Rattle.reading.specs.Reading.{Begins, Fills, textOf}
+use Rattle.reading.specs.Reading.{Begins, Fills}
 
 -- a write at the seam of two lists
 set-seam : (xs ys : List ℕ) (y c : ℕ) (n : ℕ) → length xs ≡ n → set (xs ++ (y ∷ ys)) n c ≡ (xs ++ (c ∷ [])) ++ ys

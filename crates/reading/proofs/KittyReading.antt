@@ -2,11 +2,10 @@
 use mathlib.Core.Path.{_≡_, refl, sym, ap, _∙_, subst}
 use mathlib.Core.Bool.{Bool, true, false, cond}
 use mathlib.Core.List.{List, [], _∷_, _++_}
-use mathlib.Core.Logic.{_⊎_, inl, inr}
-use Prim.Native.Nat.{ℕ, _≤_, _<_}
+use mathlib.Core.Logic.{inl, inr}
+use Prim.Native.Nat.{ℕ}
 use native.Mathlib.Omega.{arith}
-use lib.ListN.{length, length-append}
-use lib.Utf8.{encode}
+use lib.ListN.{length-append}
 use Rattle.std.specs.Text.{asciiDigit}
 use Rattle.std.specs.Written.{decimal}
 use Rattle.std.specs.declared.option.Option.{Option}
@@ -18,7 +17,7 @@ use Rattle.dialect.specs.KittyBytes.{optional, parts, plain, kittyBytes}
 use Rattle.dialect.proofs.KittyLaws.{escape-is, form, form-not}
 use Rattle.dialect.proofs.StreamLaws.{fronts}
 use Rattle.pieces.specs.declared.found.Range.the-variants.{Flags}
-use Rattle.pieces.specs.Languages.{Takes, whole, part, nothing}
+use Rattle.pieces.specs.Languages.{Takes, whole, part}
 use Rattle.pieces.specs.Letters.{Characters}
 use Rattle.pieces.specs.Runs.{Within}
 use Rattle.pieces.proofs.Stages.{Stage}

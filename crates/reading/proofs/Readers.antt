@@ -1,8 +1,8 @@
 -- Where no clear report's bytes begin another's, given bytes have one answer.
-use mathlib.Core.Path.{_≡_, refl, sym, ap, _∙_, subst}
-use mathlib.Core.List.{List, [], _++_}
+use mathlib.Core.Path.{_≡_, refl, sym, ap, _∙_}
+use mathlib.Core.List.{List, _++_}
 use mathlib.Core.Logic.{⊎-elim}
-use Prim.Native.Nat.{ℕ, _+_, _≤_, _<_}
+use Prim.Native.Nat.{ℕ, _+_}
 use native.Mathlib.Omega.{arith}
 use lib.ListN.{length, length-append}
 use Rattle.std.specs.declared.result.Result.{Result}
@@ -13,7 +13,7 @@ use Rattle.dialect.proofs.StreamLaws.{fronts}
 use Rattle.reading.specs.declared.faults.ReadFault.{ReadFault}
 use Rattle.reading.specs.declared.faults.ReadFault.the-variants.{Short, Unknown, Narrow}
 use Rattle.pieces.specs.declared.found.Seen.{Seen}
-use Rattle.reading.specs.Once.{Answers, OneAnswer, Returns}
+use Rattle.reading.specs.Once.{Answers}
 use Rattle.reading.specs.Reading.{Begins, Breaks, Fills, textOf}
 
 module _ (bytes : Meaning → List ℕ) (apart : (m n : Meaning) (t : List ℕ) → Valid m → Clear m → Valid n → Clear n → bytes m ++ t ≡ bytes n → m ≡ n) (given : List ℕ) where

@@ -1,6 +1,5 @@
 // Reads a clear report of the kitty dialect.
 ghost use mathlib.Core.Path.{_≡_};
-ghost use Prim.Native.Nat.{_≤_};
 ghost use lib.ListN.{length};
 ghost use Rattle.report.specs.Meanings.{fields};
 ghost use Rattle.dialect.specs.KittyBytes.{kittyBytes};

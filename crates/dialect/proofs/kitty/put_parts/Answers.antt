@@ -1,5 +1,5 @@
-use mathlib.Core.Path.{_≡_, sym, ap, _∙_}
-use mathlib.Core.List.{List, [], _∷_, _++_}
+use mathlib.Core.Path.{ap}
+use mathlib.Core.List.{[], _∷_}
 use Rattle.dialect.proofs.Writing.{wrote-as, wrote-more}
 use Rattle.dialect.proofs.kitty.put_parts.Needs as need
 

@@ -1,5 +1,4 @@
 use mathlib.Core.Path.{sym, subst}
-use Prim.Native.Nat.{ℕ}
 use lib.ListN.{replicate}
 use Rattle.report.specs.Meanings.{Sound}
 use Rattle.sequences.specs.Parts.{filled}

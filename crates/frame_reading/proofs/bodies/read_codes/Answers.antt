@@ -1,12 +1,12 @@
 use mathlib.Core.Path.{_≡_, refl, ap, _∙_, sym, subst}
-use mathlib.Core.List.{List, [], _∷_, _++_}
-use Prim.Native.Nat.{ℕ, _+_, _<_, _≤_}
+use mathlib.Core.List.{[], _∷_, _++_}
+use Prim.Native.Nat.{_+_, _<_, _≤_}
 use native.Mathlib.Omega.{arith}
 use lib.ListN.{length, drop, length-replicate}
-use Rattle.std.specs.declared.result.Result.the-variants.{Ok, Err}
+use Rattle.std.specs.declared.result.Result.the-variants.{Ok}
 use Rattle.std.proofs.shelf.Lists.{append-nil}
 use Rattle.report.specs.declared.report.Report.the-variants.{Sequence}
-use Rattle.report.specs.Meanings.{Sound, characters, fields}
+use Rattle.report.specs.Meanings.{Sound, characters}
 use Rattle.report.proofs.Validity.{valid}
 use Rattle.dialect.proofs.Typing.{length-characters}
 use Rattle.pieces.specs.Languages.{Takes, whole}

@@ -1,4 +1,3 @@
-use mathlib.Core.Path.{_≡_}
 use mathlib.Core.List.{[]}
 use Prim.Native.Nat.{_+_}
 use Rattle.sequences.proofs.Telling.{octet-break, octet-goes, octet-stops, tells-same}

@@ -1,5 +1,5 @@
-use mathlib.Core.Path.{_≡_, subst, sym, _∙_}
-use mathlib.Core.Bool.{true, false}
+use mathlib.Core.Path.{sym, _∙_}
+use mathlib.Core.Bool.{false}
 use Prim.Native.Nat.{_+_}
 use Rattle.sequences.proofs.Telling.{octet-break, octet-goes, octet-stops, tells-same}
 use Rattle.dialect.proofs.EndingLaws.{last-same}

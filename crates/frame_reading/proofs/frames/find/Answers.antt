@@ -1,9 +1,9 @@
-use mathlib.Core.Path.{_≡_, refl, sym, subst}
+use mathlib.Core.Path.{_≡_, refl}
 use mathlib.Core.List.{List, []}
 use Prim.Native.Nat.{ℕ}
 use lib.ListN.{drop}
 use Rattle.std.specs.declared.result.Result.{Result}
-use Rattle.std.specs.declared.result.Result.the-variants.{Ok, Err}
+use Rattle.std.specs.declared.result.Result.the-variants.{Ok}
 use Rattle.report.specs.declared.report.Report.the-variants.{Sequence as Told}
 use Rattle.report.specs.Meanings.{sequence, means, fields}
 use Rattle.frames.specs.Framing.{frameBytes}

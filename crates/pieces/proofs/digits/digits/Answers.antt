@@ -1,8 +1,7 @@
-use mathlib.Core.Path.{_≡_, sym, ap, _∙_}
+use mathlib.Core.Path.{_≡_, sym, _∙_}
 use mathlib.Core.Bool.{true, false}
-use Prim.Native.Nat.{_≤_, _<_}
 use native.Mathlib.Omega.{arith}
-use lib.ListN.{length, getD}
+use lib.ListN.{getD}
 use Rattle.std.specs.Text.{asciiDigit}
 use Rattle.pieces.proofs.Extending.{digit-range}
 use Rattle.pieces.proofs.DigitLaws.{run-whole, run-more, run-part, run-nothing}

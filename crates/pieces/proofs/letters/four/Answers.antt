@@ -1,10 +1,9 @@
-use mathlib.Core.Path.{_≡_, refl, sym, subst}
+use mathlib.Core.Path.{sym, subst}
 use mathlib.Core.Logic.{inl, inr}
-use Prim.Native.Nat.{_<_, _≤_}
 use native.Mathlib.Omega.{arith}
-use lib.ListN.{length, getD, drop}
-use Rattle.pieces.specs.Languages.{Takes, whole, part, nothing}
-use Rattle.pieces.specs.Letters.{Two, Three, Four}
+use lib.ListN.{getD, drop}
+use Rattle.pieces.specs.Languages.{Takes, part, nothing}
+use Rattle.pieces.specs.Letters.{Four}
 use Rattle.pieces.proofs.LetterLaws.{from-2, from-3, from-4, just-1, just-2, just-3, four-first, four-short-2, four-short-3, four-none-2, four-none-front, four-none-3, four-none-4}
 use Rattle.pieces.proofs.letters.four.Needs as need
 

@@ -1,9 +1,7 @@
-use mathlib.Core.Path.{_≡_, refl, sym, subst}
-use mathlib.Core.List.{[], _∷_}
+use mathlib.Core.Path.{sym, subst}
 use mathlib.Core.Logic.{inl, inr}
-use Prim.Native.Nat.{_<_, _≤_}
 use native.Mathlib.Omega.{arith}
-use lib.ListN.{length, getD, drop}
+use lib.ListN.{getD, drop}
 use Rattle.pieces.specs.Languages.{Takes, whole, part, nothing}
 use Rattle.pieces.specs.Letters.{Two, Three, Four, Characters}
 use Rattle.pieces.proofs.LetterLaws.{none, from-1, form-two, form-three, form-four, letter-empty, letter-none, escape-none, one-whole, spells-as}
@@ -12,11 +10,11 @@ use Rattle.pieces.proofs.letters.read_letter.Needs as need
 pub returns-then-bytes-eq0 : need.returns-then-bytes-eq0
 returns-then-bytes-eq0 c = subst (λ g. Takes Characters g part) (sym (none (c .args .bytes .now) (c .if-bytes-eq0 .taken))) letter-empty
 
-pub returns-then-b-eq27 : need.returns-then-b-eq27
-returns-then-b-eq27 c = subst (λ g. Takes Characters g nothing) (sym (from-1 (c .args .bytes .now) (omega arith))) (escape-none (getD (c .args .bytes .now) 0 0) (drop 1 (c .args .bytes .now)) (c .if-b-eq27 .taken))
+pub returns-then-b-eq-ESC : need.returns-then-b-eq-ESC
+returns-then-b-eq-ESC c = subst (λ g. Takes Characters g nothing) (sym (from-1 (c .args .bytes .now) (omega arith))) (escape-none (getD (c .args .bytes .now) 0 0) (drop 1 (c .args .bytes .now)) (c .if-b-eq-ESC .taken))
 
 pub returns-then-b-lt128 : need.returns-then-b-lt128
-returns-then-b-lt128 c = (subst (λ g. Takes Characters g (whole (getD (c .args .bytes .now) 0 0) (drop 1 (c .args .bytes .now)))) (sym (from-1 (c .args .bytes .now) (omega arith))) (one-whole (getD (c .args .bytes .now) 0 0) (drop 1 (c .args .bytes .now)) (omega arith) (c .if-b-eq27 .left)), omega arith)
+returns-then-b-lt128 c = (subst (λ g. Takes Characters g (whole (getD (c .args .bytes .now) 0 0) (drop 1 (c .args .bytes .now)))) (sym (from-1 (c .args .bytes .now) (omega arith))) (one-whole (getD (c .args .bytes .now) 0 0) (drop 1 (c .args .bytes .now)) (omega arith) (c .if-b-eq-ESC .left)), omega arith)
 
 pub returns-then-b-lt194 : need.returns-then-b-lt194
 returns-then-b-lt194 c = subst (λ g. Takes Characters g nothing) (sym (from-1 (c .args .bytes .now) (omega arith))) (letter-none (getD (c .args .bytes .now) 0 0) (drop 1 (c .args .bytes .now)) (omega arith) (inl (omega arith)))

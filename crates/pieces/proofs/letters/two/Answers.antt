@@ -1,10 +1,9 @@
-use mathlib.Core.Path.{_≡_, refl, sym, subst}
+use mathlib.Core.Path.{sym, subst}
 use mathlib.Core.Logic.{inl, inr}
-use Prim.Native.Nat.{_<_, _≤_}
 use native.Mathlib.Omega.{arith}
-use lib.ListN.{length, getD, drop}
-use Rattle.pieces.specs.Languages.{Takes, whole, part, nothing}
-use Rattle.pieces.specs.Letters.{Two, Three, Four}
+use lib.ListN.{getD, drop}
+use Rattle.pieces.specs.Languages.{Takes, part, nothing}
+use Rattle.pieces.specs.Letters.{Two}
 use Rattle.pieces.proofs.LetterLaws.{from-2, just-1, two-short, two-none}
 use Rattle.pieces.proofs.letters.two.Needs as need
 

@@ -1,11 +1,9 @@
-use mathlib.Core.Path.{_≡_, sym, ap, _∙_, subst}
+use mathlib.Core.Path.{_≡_, ap, _∙_, subst}
 use mathlib.Core.Bool.{true}
-use mathlib.Core.List.{List, _++_}
-use Prim.Native.Nat.{ℕ, _≤_}
+use mathlib.Core.List.{_++_}
 use native.Mathlib.Omega.{arith}
 use lib.ListN.{length, take, drop, getD, set}
 use Rattle.std.proofs.shelf.Lists.{length-set, getD-default, take-all}
-use Rattle.report.specs.Meanings.{characters}
 use Rattle.reading.specs.Filling.{Filled}
 use Rattle.reading.proofs.FillLaws.{row-more}
 use Rattle.reading.proofs.filling.put_codes.Needs as need

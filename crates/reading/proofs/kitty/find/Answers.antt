@@ -1,14 +1,13 @@
 use mathlib.Core.Path.{_≡_, refl, sym, ap, _∙_, subst}
-use mathlib.Core.Bool.{Bool, true, false}
 use mathlib.Core.List.{List, [], _∷_, _++_}
-use Prim.Native.Nat.{ℕ, _≤_}
+use Prim.Native.Nat.{ℕ}
 use lib.ListN.{length, drop}
 use Rattle.std.proofs.shelf.Equals.{starts-is}
 use Rattle.report.specs.declared.report.Report.the-variants.{Text, Sequence}
 use Rattle.report.specs.Meanings.{Meaning, Fields, text, sequence, means, fields}
 use Rattle.dialect.specs.KittyBytes.{kittyBytes}
 use Rattle.pieces.specs.declared.found.Letter.{Letter}
-use Rattle.pieces.specs.Languages.{Takes, whole, part}
+use Rattle.pieces.specs.Languages.{Takes, whole}
 use Rattle.pieces.specs.Letters.{Characters}
 use Rattle.pieces.proofs.Fronts.{fails}
 use Rattle.pieces.proofs.Chains.{embeds-break, embeds-whole, embeds-same}

@@ -1,4 +1,3 @@
-use mathlib.Core.Path.{refl}
 use Rattle.std.specs.declared.option.Option.the-variants.{Some, None}
 use Rattle.report.specs.Meanings.{means}
 use Rattle.pieces.proofs.Stages.{stage-break, stage-stops}

@@ -1,6 +1,5 @@
 use mathlib.Core.Path.{_≡_, sym, ap, subst}
-use mathlib.Core.List.{List, []}
-use Prim.Native.Nat.{ℕ}
+use mathlib.Core.List.{[]}
 use lib.ListN.{take}
 use Rattle.report.specs.Meanings.{characters}
 use Rattle.sequences.specs.Parts.{AtClosing, AtText, Tells, Makes, filled}

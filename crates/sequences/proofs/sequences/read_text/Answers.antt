@@ -1,22 +1,19 @@
-use mathlib.Core.Path.{_≡_, refl, ap, _∙_, sym, subst}
-use mathlib.Core.List.{List, [], _∷_, _++_}
-use Prim.Native.Nat.{ℕ, _+_, _<_, _≤_}
+use mathlib.Core.Path.{_≡_, refl, subst}
+use mathlib.Core.List.{[], _∷_, _++_}
+use Prim.Native.Nat.{_+_, _<_, _≤_}
 use native.Mathlib.Omega.{arith}
 use lib.ListN.{length}
 use Rattle.std.specs.declared.option.Option.the-variants.{Some}
-use Rattle.std.specs.declared.result.Result.{Result}
 use Rattle.std.specs.declared.result.Result.the-variants.{Err}
 use Rattle.report.specs.declared.ending.Last.the-variants.{U}
 use Rattle.report.specs.declared.text.Text.{Text}
 use Rattle.report.specs.Meanings.{characters}
 use Rattle.dialect.proofs.Typing.{length-characters}
-use Rattle.pieces.specs.declared.found.Fault.{Fault}
 use Rattle.pieces.specs.declared.found.Fault.the-variants.{Unknown}
 use Rattle.pieces.specs.declared.found.Range.the-variants.{Code}
 use Rattle.pieces.proofs.Stages.{Stage}
 use Rattle.sequences.specs.declared.told.Head.{Head}
-use Rattle.sequences.specs.declared.told.Told.{Told}
-use Rattle.sequences.specs.Parts.{AtText, AtEnd, Started, Makes, Tells, filled, afterCharacter}
+use Rattle.sequences.specs.Parts.{AtText, Started, Makes, Tells, filled, afterCharacter}
 use Rattle.sequences.proofs.Telling.{stage-break, stage-goes, stage-stops}
 use Rattle.sequences.proofs.TextLaws.{pushed, text-stage, text-full, text-none, text-strange, text-made}
 use Rattle.sequences.proofs.sequences.read_text.Needs as need

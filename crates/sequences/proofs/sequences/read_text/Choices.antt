@@ -1,6 +1,5 @@
 use mathlib.Core.Path.{_≡_}
 use mathlib.Core.List.{[]}
-use Prim.Native.Nat.{_≤_}
 use Rattle.std.specs.declared.result.Result.{Result}
 use Rattle.report.specs.Meanings.{characters}
 use Rattle.pieces.specs.declared.found.Fault.{Fault}

@@ -12,15 +12,34 @@ use Rattle.input_types.specs.declared.key_code.KeyCode.the-variants as K
 
 -- the characters that a US keyboard types, the letters in both cases
 abbrev pub chars : List (ℕ × PhysKeyCode)
-chars = (97, P.A) ∷ (65, P.A) ∷ (98, P.B) ∷ (66, P.B) ∷ (99, P.C) ∷ (67, P.C) ∷ (100, P.D) ∷ (68, P.D) ∷ (101, P.E) ∷ (69, P.E) ∷ (102, P.F) ∷ (70, P.F) ∷ (103, P.G) ∷ (71, P.G) ∷ (104, P.H) ∷ (72, P.H) ∷ (105, P.I) ∷ (73, P.I) ∷ (106, P.J) ∷ (74, P.J) ∷ (107, P.K) ∷ (75, P.K) ∷ (108, P.L) ∷ (76, P.L) ∷ (109, P.M) ∷ (77, P.M) ∷ (110, P.N) ∷ (78, P.N) ∷ (111, P.O) ∷ (79, P.O) ∷ (112, P.P) ∷ (80, P.P) ∷ (113, P.Q) ∷ (81, P.Q) ∷ (114, P.R) ∷ (82, P.R) ∷ (115, P.S) ∷ (83, P.S) ∷ (116, P.T) ∷ (84, P.T) ∷ (117, P.U) ∷ (85, P.U) ∷ (118, P.V) ∷ (86, P.V) ∷ (119, P.W) ∷ (87, P.W) ∷ (120, P.X) ∷ (88, P.X) ∷ (121, P.Y) ∷ (89, P.Y) ∷ (122, P.Z) ∷ (90, P.Z) ∷ (48, P.K0) ∷ (49, P.K1) ∷ (50, P.K2) ∷ (51, P.K3) ∷ (52, P.K4) ∷ (53, P.K5) ∷ (54, P.K6) ∷ (55, P.K7) ∷ (56, P.K8) ∷ (57, P.K9) ∷ (92, P.Backslash) ∷ (44, P.Comma) ∷ (8, P.Backspace) ∷ (127, P.Delete) ∷ (61, P.Equal) ∷ (27, P.Escape) ∷ (96, P.Grave) ∷ (13, P.Return) ∷ (91, P.LeftBracket) ∷ (93, P.RightBracket) ∷ (45, P.Minus) ∷ (46, P.Period) ∷ (39, P.Quote) ∷ (59, P.Semicolon) ∷ (47, P.Slash) ∷ (32, P.Space) ∷ (9, P.Tab) ∷ []
+chars =
+    (97, P.A) ∷ (65, P.A) ∷ (98, P.B) ∷ (66, P.B) ∷ (99, P.C) ∷ (67, P.C) ∷ (100, P.D) ∷ (68, P.D)
+    ∷ (101, P.E) ∷ (69, P.E) ∷ (102, P.F) ∷ (70, P.F) ∷ (103, P.G) ∷ (71, P.G) ∷ (104, P.H) ∷ (72, P.H)
+    ∷ (105, P.I) ∷ (73, P.I) ∷ (106, P.J) ∷ (74, P.J) ∷ (107, P.K) ∷ (75, P.K) ∷ (108, P.L) ∷ (76, P.L)
+    ∷ (109, P.M) ∷ (77, P.M) ∷ (110, P.N) ∷ (78, P.N) ∷ (111, P.O) ∷ (79, P.O) ∷ (112, P.P) ∷ (80, P.P)
+    ∷ (113, P.Q) ∷ (81, P.Q) ∷ (114, P.R) ∷ (82, P.R) ∷ (115, P.S) ∷ (83, P.S) ∷ (116, P.T) ∷ (84, P.T)
+    ∷ (117, P.U) ∷ (85, P.U) ∷ (118, P.V) ∷ (86, P.V) ∷ (119, P.W) ∷ (87, P.W) ∷ (120, P.X) ∷ (88, P.X)
+    ∷ (121, P.Y) ∷ (89, P.Y) ∷ (122, P.Z) ∷ (90, P.Z) ∷ (48, P.K0) ∷ (49, P.K1) ∷ (50, P.K2) ∷ (51, P.K3)
+    ∷ (52, P.K4) ∷ (53, P.K5) ∷ (54, P.K6) ∷ (55, P.K7) ∷ (56, P.K8) ∷ (57, P.K9) ∷ (92, P.Backslash) ∷ (44, P.Comma)
+    ∷ (8, P.Backspace) ∷ (127, P.Delete) ∷ (61, P.Equal) ∷ (27, P.Escape) ∷ (96, P.Grave) ∷ (13, P.Return) ∷ (91, P.LeftBracket) ∷ (93, P.RightBracket)
+    ∷ (45, P.Minus) ∷ (46, P.Period) ∷ (39, P.Quote) ∷ (59, P.Semicolon) ∷ (47, P.Slash) ∷ (32, P.Space) ∷ (9, P.Tab)
+    ∷ []
 
 -- the digits of the keypad
 abbrev pub digits : List (ℕ × PhysKeyCode)
-digits = (0, P.Keypad0) ∷ (1, P.Keypad1) ∷ (2, P.Keypad2) ∷ (3, P.Keypad3) ∷ (4, P.Keypad4) ∷ (5, P.Keypad5) ∷ (6, P.Keypad6) ∷ (7, P.Keypad7) ∷ (8, P.Keypad8) ∷ (9, P.Keypad9) ∷ []
+digits =
+    (0, P.Keypad0) ∷ (1, P.Keypad1) ∷ (2, P.Keypad2) ∷ (3, P.Keypad3) ∷ (4, P.Keypad4)
+    ∷ (5, P.Keypad5) ∷ (6, P.Keypad6) ∷ (7, P.Keypad7) ∷ (8, P.Keypad8) ∷ (9, P.Keypad9)
+    ∷ []
 
 -- the function keys that have a place: F1 to F20
 abbrev pub functions : List (ℕ × PhysKeyCode)
-functions = (1, P.F1) ∷ (2, P.F2) ∷ (3, P.F3) ∷ (4, P.F4) ∷ (5, P.F5) ∷ (6, P.F6) ∷ (7, P.F7) ∷ (8, P.F8) ∷ (9, P.F9) ∷ (10, P.F10) ∷ (11, P.F11) ∷ (12, P.F12) ∷ (13, P.F13) ∷ (14, P.F14) ∷ (15, P.F15) ∷ (16, P.F16) ∷ (17, P.F17) ∷ (18, P.F18) ∷ (19, P.F19) ∷ (20, P.F20) ∷ []
+functions =
+    (1, P.F1) ∷ (2, P.F2) ∷ (3, P.F3) ∷ (4, P.F4) ∷ (5, P.F5)
+    ∷ (6, P.F6) ∷ (7, P.F7) ∷ (8, P.F8) ∷ (9, P.F9) ∷ (10, P.F10)
+    ∷ (11, P.F11) ∷ (12, P.F12) ∷ (13, P.F13) ∷ (14, P.F14) ∷ (15, P.F15)
+    ∷ (16, P.F16) ∷ (17, P.F17) ∷ (18, P.F18) ∷ (19, P.F19) ∷ (20, P.F20)
+    ∷ []
 
 -- the place of each key
 abbrev pub physOf : KeyCode → Option PhysKeyCode

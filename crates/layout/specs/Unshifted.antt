@@ -26,11 +26,22 @@ abbrev pub run : ℕ → ℕ → ℕ → ℕ → Run
 run a b k d = record { first = a; last = b; every = k; add = d }
 
 abbrev pub capitals : List Run
-capitals = run 65 90 1 32 ∷ run 192 214 1 32 ∷ run 216 222 1 32 ∷ run 1040 1071 1 32 ∷ run 1024 1039 1 80 ∷ run 256 302 2 1 ∷ run 306 310 2 1 ∷ run 330 374 2 1 ∷ run 313 327 2 1 ∷ run 377 381 2 1 ∷ []
+capitals =
+    run 65 90 1 32 ∷ run 192 214 1 32
+    ∷ run 216 222 1 32 ∷ run 1040 1071 1 32
+    ∷ run 1024 1039 1 80 ∷ run 256 302 2 1
+    ∷ run 306 310 2 1 ∷ run 330 374 2 1
+    ∷ run 313 327 2 1 ∷ run 377 381 2 1
+    ∷ []
 
 -- the marks that Shift gives, and the one letter whose lower-case form stands before it
 abbrev pub marks : List (ℕ × ℕ)
-marks = (33, 49) ∷ (64, 50) ∷ (35, 51) ∷ (36, 52) ∷ (37, 53) ∷ (94, 54) ∷ (38, 55) ∷ (42, 56) ∷ (40, 57) ∷ (41, 48) ∷ (95, 45) ∷ (43, 61) ∷ (126, 96) ∷ (123, 91) ∷ (125, 93) ∷ (124, 92) ∷ (58, 59) ∷ (34, 39) ∷ (60, 44) ∷ (62, 46) ∷ (63, 47) ∷ (376, 255) ∷ []
+marks =
+    (33, 49) ∷ (64, 50) ∷ (35, 51) ∷ (36, 52) ∷ (37, 53) ∷ (94, 54) ∷ (38, 55)
+    ∷ (42, 56) ∷ (40, 57) ∷ (41, 48) ∷ (95, 45) ∷ (43, 61) ∷ (126, 96) ∷ (123, 91)
+    ∷ (125, 93) ∷ (124, 92) ∷ (58, 59) ∷ (34, 39) ∷ (60, 44) ∷ (62, 46) ∷ (63, 47)
+    ∷ (376, 255)
+    ∷ []
 
 abbrev pub lowered : ℕ → ℕ
 lowered c = c + toLower capitals c

@@ -19,7 +19,11 @@ use Rattle.names.specs.Reads.{orElse}
 
 -- the words, and no word for no modifier
 unfoldable pub words : List (List ℕ × ℕ)
-words = (codes "SHIFT", shift) ∷ (codes "ALT", alt) ∷ (codes "OPT", alt) ∷ (codes "META", alt) ∷ (codes "CTRL", ctrl) ∷ (codes "SUPER", super) ∷ (codes "CMD", super) ∷ (codes "WIN", super) ∷ (codes "LEADER", 128) ∷ (codes "NONE", 0) ∷ (codes "", 0) ∷ []
+words =
+    (codes "SHIFT", shift) ∷ (codes "ALT", alt) ∷ (codes "OPT", alt) ∷ (codes "META", alt)
+    ∷ (codes "CTRL", ctrl) ∷ (codes "SUPER", super) ∷ (codes "CMD", super) ∷ (codes "WIN", super)
+    ∷ (codes "LEADER", 128) ∷ (codes "NONE", 0) ∷ (codes "", 0)
+    ∷ []
 
 -- the bits of the word in a part that begins at a place; a word with no meaning refuses at its own place
 unfoldable pub wordBits : ℕ → List ℕ → Result ℕ NameFault

@@ -89,7 +89,7 @@ abbrev pub erased : ℕ → ℕ
 erased c = cond (eqb c 8) 127 c
 
 -- A character pressed with no modifiers of its own is its own text, unless all keys are reported as escape codes.
--- Escape goes on where escapes are told apart, and Delete always does.
+-- Escape goes on where escape codes are disambiguated, and Delete always does.
 abbrev pub plainly : ℕ → Bool → ℕ → ℕ → Bool
 plainly flags down own c = down && eqb own 0 && not (holds flags all-keys) && not (eqb c 27 && holds flags disambiguate) && not (eqb c 127)
 
@@ -120,7 +120,7 @@ abbrev pub enters : ℕ → Bool → PlainKind → Verdict
 enters flags down k = onCharacter k (λ c. cond (entering flags down c) silent passes)
 
 -- A character goes the old way when pressed, if it is an ASCII letter, digit or mark, without Super, where neither alternate keys
--- nor all keys are reported, and where not both escapes are told apart and Ctrl or Alt is held.
+-- nor all keys are reported, and where not both escape codes are disambiguated and Ctrl or Alt is held.
 abbrev pub oldWay : ℕ → Bool → ℕ → ℕ → Bool
 oldWay flags down own c =
     down && leb 33 c && leb c 126 && not (holds flags alternate-keys) && not (holds flags all-keys) && not (holds own super) && not (holds flags disambiguate && (holds own ctrl || holds own alt))

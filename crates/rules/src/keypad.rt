@@ -2,7 +2,7 @@
 ghost use mathlib.Core.Path.{_≡_};
 ghost use Prim.Native.Nat.{_<_, _≤_};
 ghost use Rattle.std.specs.Options.{Cases};
-ghost use Rattle.rules.specs.Pads.{padPlace, numberIn, padCode, Placed};
+ghost use Rattle.rules.specs.Pads.{pads as keypad, padPlace, numberIn, padCode, Placed};
 use input_types::phys_key_code::PhysKeyCode;
 
 // A key, its number with Num Lock, and its number without; 1 is that of the key in the middle, which has a final of its own.
@@ -13,7 +13,7 @@ pub struct Pad {
     pub unlocked: u32,
 }
 
-pub const PADS: [Pad; 18] = [
+const PADS: [Pad; 18] = [
     Pad {
         phys: PhysKeyCode::Keypad0,
         locked: 57399,
@@ -157,9 +157,10 @@ pub fn pad_code(phys: PhysKeyCode, lock: bool) -> Option<u32>
     }
 }
 
-// Each entry of the table stands at the place of its key.
-pub fn pads_placed() -> u8
-    ensures { λ _. ⌜ Placed ⌝ }
+// The table, in which each entry stands at the place of its key.
+pub fn pads() -> [Pad; 18]
+    ensures table { λ r. ⌜ r ≡ keypad ⌝ }
+    ensures placed { λ _. ⌜ Placed ⌝ }
 {
-    0
+    PADS
 }

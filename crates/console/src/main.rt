@@ -1,4 +1,6 @@
 // A planner's short pass: coded key events through check, rules and a dialect, a line for each.
+#![tactic(auto)]
+
 mod pass;
 mod show;
 

@@ -1,4 +1,6 @@
 // The byte strings that dialects write reports as.
+#![tactic(auto)]
+
 pub mod dialect;
 pub mod endings;
 pub mod kitty;

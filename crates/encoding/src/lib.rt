@@ -1,4 +1,6 @@
 // From an event to bytes: check, rules and dialect in one call.
+#![tactic(auto)]
+
 ghost use Rattle.std.specs.Result.{MatchResult};
 ghost use Rattle.events.specs.Events.{plain_event};
 ghost use Rattle.encoding.specs.Sent.{Sends, Refuses};

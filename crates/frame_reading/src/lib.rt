@@ -1,4 +1,6 @@
 // Reads frames, exactly.
+#![tactic(auto)]
+
 pub mod bodies;
 pub mod found;
 pub mod frames;

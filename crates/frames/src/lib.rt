@@ -1,2 +1,4 @@
 // Reports as frames for a recorder.
+#![tactic(auto)]
+
 pub mod frames;

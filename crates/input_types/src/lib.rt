@@ -1,4 +1,6 @@
 // The records of wezterm-input-types and the maps between them.
+#![tactic(auto)]
+
 pub mod control;
 pub mod event;
 pub mod flags;

@@ -1,4 +1,6 @@
 // A layout gives each character the one that its key gives without Shift.
+#![tactic(auto)]
+
 ghost use Rattle.std.specs.Prelude.{◌≡◌, ℕ, true};
 ghost use Rattle.texts.specs.Texts.{allowed};
 

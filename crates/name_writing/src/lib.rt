@@ -1,4 +1,6 @@
 // The names of keys, modifiers and lights, written to the caller's buffers.
+#![tactic(auto)]
+
 pub mod flags;
 mod key_name;
 pub mod keys;

@@ -1,4 +1,6 @@
 // Names and normal forms on examples, with the answers that the Rust gives.
+#![tactic(auto)]
+
 #[cfg(test)]
 mod tests {
     use input_types::event::KeyEvent;

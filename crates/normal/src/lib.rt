@@ -1,4 +1,6 @@
 // The normal forms of a key event. Each takes the event and returns it changed.
+#![tactic(auto)]
+
 ghost use Rattle.std.specs.Prelude.{◌≡◌};
 ghost use Rattle.input_types.specs.Bits.{without, shift};
 ghost use Rattle.normal.specs.Forms.{shifted, uncontrolled, surfaced_key, shift_form, ctrl_form, surfaced};

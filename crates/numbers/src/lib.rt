@@ -1,4 +1,6 @@
 // A small number as text, and the faults of a text that is none.
+#![tactic(auto)]
+
 ghost use Rattle.std.specs.Prelude.{◌≡◌, Ok};
 ghost use Rattle.numbers.specs.Numbers.{with_digit, digits_from, number_of, placed, within, refusal};
 

@@ -1,4 +1,6 @@
 // Readers of the dialects.
+#![tactic(auto)]
+
 pub mod faults;
 pub mod filling;
 pub mod frames;

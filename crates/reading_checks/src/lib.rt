@@ -1,4 +1,6 @@
 // Runs the writers and the readers of both dialects on examples.
+#![tactic(auto)]
+
 #[cfg(test)]
 mod tests {
     use dialect::dialect::Dialect;

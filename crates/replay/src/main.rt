@@ -1,4 +1,6 @@
 // Answers queries that come one a line, each by one line.
+#![tactic(auto)]
+
 mod event_words;
 mod print;
 mod reports;

@@ -1,4 +1,6 @@
 // What is told to the program in the terminal, before it has bytes.
+#![tactic(auto)]
+
 pub mod ending;
 pub mod making;
 pub mod report;

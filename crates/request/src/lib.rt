@@ -1,4 +1,6 @@
 // A host's requests, read one byte at a time.
+#![tactic(auto)]
+
 ghost use Rattle.std.specs.Prelude.{◌≡◌, ℕ, List, [], ◌∷◌, ◌++◌};
 ghost use Rattle.request.specs.Steps.{more, stands as standing, ends as ending, spoiled, step};
 ghost use Rattle.request.specs.Reading.{Ended, Hears, OneWay, ended};

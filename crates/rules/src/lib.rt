@@ -1,4 +1,6 @@
 // What a key tells: the first rule that fits decides.
+#![tactic(auto)]
+
 mod characters;
 mod early;
 pub mod keypad;

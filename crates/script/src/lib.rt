@@ -1,4 +1,6 @@
 // A list of calls, made of a seat one after another.
+#![tactic(auto)]
+
 ghost use Rattle.std.specs.Prelude.{◌≡◌, ◌≤◌, min, [], length, take, drop};
 ghost use Rattle.plain_seat.specs.Reading.{Steps, GoesOn};
 ghost use Rattle.seat.specs.Seats.{view_of, counted};

@@ -1,4 +1,6 @@
 // A seat turns key events into reports, and reports into bytes on a wire.
+#![tactic(auto)]
+
 mod calls;
 pub mod refusal;
 pub mod seat;

@@ -1,4 +1,6 @@
 // The settings that programs push and pop, a row for each screen.
+#![tactic(auto)]
+
 pub mod row;
 pub mod screens;
 pub mod settings;

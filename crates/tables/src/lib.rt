@@ -1,4 +1,6 @@
 // Tables: what stands beside a number (specs/Tables.antt), and what bears a name.
+#![tactic(auto)]
+
 ghost use Rattle.std.specs.Prelude.{◌≡◌};
 ghost use Rattle.tables.specs.Tables.{bears};
 ghost use Rattle.tables.specs.Entries.{entries};

@@ -1,4 +1,6 @@
 // A wire keeps bytes in order, up to a capacity that never changes.
+#![tactic(auto)]
+
 ghost use Rattle.std.specs.Prelude.{◌≡◌, ℕ, ◌+◌, ◌-◌, ◌<◌, ◌≤◌, min, List, ◌++◌, length, drop};
 ghost use Rattle.wire.specs.Moves.{fits, after_put, moves, filled};
 

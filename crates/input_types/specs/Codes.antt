@@ -1,5 +1,5 @@
 -- The number of a functional key in the protocol's table, by the key and else by its place.
-use Rattle.std.specs.Prelude.{ℕ, ◌+◌, ◌-◌, cond, ◌&&◌, Some, None, Option, nat_le}
+use Rattle.std.specs.Prelude.{ℕ, ◌+◌, cond, ◌&&◌, Some, None, Option, nat_le}
 use Rattle.input_types.specs.declared.phys_key_code.PhysKeyCode.{PhysKeyCode}
 use Rattle.input_types.specs.declared.phys_key_code.PhysKeyCode.TheVariants as P
 use Rattle.input_types.specs.declared.key_code.KeyCode.{KeyCode}

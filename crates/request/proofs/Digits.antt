@@ -1,7 +1,7 @@
 -- Digits of a number, up to the byte after them.
-use Rattle.std.proofs.Common.{◌≡◌, ℕ, ◌+◌, ◌-◌, ◌*◌, ◌≤◌, Bool, true, false, cond, ◌&&◌, leb, ◌⊎◌, List, [], ◌∷◌, ◌++◌, Some, None, Option, unwrap_or, sym, refl, ap, ◌∙◌, subst, inl, inr, true≢false, arith}
-use Rattle.std.proofs.lemmas.Bool.{cases_Bool, le-leb, and_from, and_parts, leb-true}
-use Rattle.request.specs.Steps.{digit, more}
+use Rattle.std.proofs.Common.{◌≡◌, ℕ, ◌+◌, ◌-◌, ◌*◌, ◌≤◌, true, false, ◌&&◌, leb, ◌⊎◌, List, [], ◌∷◌, ◌++◌, Some, Option, unwrap_or, sym, refl, ap, ◌∙◌, subst, inl, inr, true≢false, arith}
+use Rattle.std.proofs.lemmas.Bool.{le-leb, and_from, and_parts, leb-true}
+use Rattle.request.specs.Steps.{digit}
 use Rattle.request.specs.Spelling.{Digits, Number, amount, or_else}
 use Rattle.request.specs.Reading.{Gives}
 

@@ -1,8 +1,8 @@
 -- Where a byte goes on with no request.
-use Rattle.std.proofs.Common.{◌≡◌, ℕ, ◌+◌, ◌-◌, ◌*◌, true, false, ◌&&◌, leb, ◌⊎◌, List, [], ◌∷◌, ◌++◌, Option, unwrap_or, sym, refl, ap, ◌∙◌, subst, inl, inr, true≢false, arith}
+use Rattle.std.proofs.Common.{◌≡◌, ℕ, ◌+◌, ◌-◌, ◌*◌, false, ◌&&◌, leb, ◌⊎◌, List, [], ◌∷◌, ◌++◌, Option, unwrap_or, sym, refl, ap, ◌∙◌, inl, inr, true≢false, arith}
 use Rattle.std.proofs.lemmas.List.{append_assoc}
 use Rattle.request.specs.Steps.{digit}
-use Rattle.request.specs.Spelling.{Spelled, Push, Pop, Set, SetMode, Query, spell, Proper, Number, Misfits}
+use Rattle.request.specs.Spelling.{Spelled, Push, Pop, Set, SetMode, Query, spell, Number, Misfits}
 use Rattle.request.specs.Reading.{Gives}
 use Rattle.request.proofs.Digits.{head, tail, split, stuck}
 

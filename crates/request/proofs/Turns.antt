@@ -1,5 +1,5 @@
 -- What one byte comes to, in the words of the spelling.
-use Rattle.std.proofs.Common.{◌≡◌, ℕ, ◌+◌, ◌-◌, ◌*◌, Bool, true, false, cond, ◌&&◌, eqb, leb, ◌⊎◌, List, [], ◌∷◌, ◌++◌, Some, None, Option, unwrap_or, sym, refl, ap, ◌∙◌, subst, inl, inr, true≢false, arith}
+use Rattle.std.proofs.Common.{◌≡◌, ℕ, ◌+◌, ◌-◌, ◌*◌, Bool, true, false, cond, ◌&&◌, eqb, leb, List, [], ◌∷◌, ◌++◌, Some, None, Option, unwrap_or, sym, refl, ap, ◌∙◌, subst, inl, inr, arith}
 use Rattle.std.proofs.lemmas.List.{append_assoc}
 use Rattle.std.proofs.lemmas.Bool.{cases_Bool, cond-true, cond-false, eqb-true, eqb-false}
 use Rattle.request.specs.declared.State.{State}
@@ -7,7 +7,7 @@ use Rattle.request.specs.declared.State.TheVariants as S
 use Rattle.request.specs.declared.Request.{Request}
 use Rattle.request.specs.declared.Request.TheVariants as R
 use Rattle.request.specs.Steps.{Answer, digit, more, stands, ends, spoiled, on, step}
-use Rattle.request.specs.Spelling.{Spelled, Push, Pop, Set, SetMode, Query, spell, Proper, Number, Begins, Whole, Misfits, asks, or_else}
+use Rattle.request.specs.Spelling.{Push, Pop, Set, SetMode, Query, Number, Begins, Whole, Misfits, or_else}
 use Rattle.request.specs.Reading.{Turn, Goes, Ends, Breaks, left, says, ended, Gives, Pending}
 use Rattle.request.proofs.Digits.{head, grown}
 use Rattle.request.proofs.Shapes.{kind, second, third, first_is, second_is, third_is, kinds, query_only, push_only, pop_only, set_only, mode_only}

@@ -1,8 +1,7 @@
 -- Which requests a string of bytes holds.
-use Rattle.std.specs.Prelude.{◌≡◌, ℕ, cond, ◌⊎◌, List, [], ◌∷◌, ◌++◌, Some, None, Ok, Err, Option, ◌==◌}
+use Rattle.std.specs.Prelude.{◌≡◌, ℕ, cond, List, [], ◌∷◌, ◌++◌, Some, None, Ok, Err, Option, ◌==◌}
 use Rattle.std.specs.Option.{unwrap_or}
 use Rattle.request.specs.declared.Request.{Request}
-use Rattle.request.specs.declared.Fault.{Fault}
 use Rattle.request.specs.declared.State.{State}
 use Rattle.request.specs.declared.State.TheVariants as S
 use Rattle.request.specs.Steps.{Answer}

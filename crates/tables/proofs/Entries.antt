@@ -1,10 +1,8 @@
 -- A search through a table of the code, one entry after another: for a name, and for a value.
-use Rattle.std.proofs.Common.{◌≡◌, ℕ, ◌+◌, ◌<◌, ◌≤◌, Bool, true, false, cond, eqb, List, ◌∷◌, length, get_or, drop, Some, None, Decides, sym, refl, ap, ◌∙◌}
+use Rattle.std.proofs.Common.{◌≡◌, ℕ, ◌+◌, ◌<◌, ◌≤◌, Bool, true, false, cond, eqb, List, ◌∷◌, length, get_or, drop, Some, None, sym, refl, ap, ◌∙◌}
 use Rattle.std.specs.Str.{bytes_eq}
-use Rattle.std.proofs.lemmas.Slice.Eq.{bytes_eq-Decides}
 use Rattle.std.proofs.lemmas.List.{drop_all, drop_more}
 use Rattle.std.proofs.lemmas.Bool.{eq-eqb, ne_eqb}
-use Rattle.std.proofs.lemmas.Bool.Decides.{same_from_decides}
 use Rattle.tables.specs.declared.Named.{Named}
 use Rattle.tables.specs.Entries.{entries}
 use Rattle.tables.specs.Tables.{bears, name_for}
@@ -15,9 +13,9 @@ module _ {A : Type 0} (t : List (Named A)) (i : ℕ) (x : Named A) (h : i < leng
   split = drop_more t i x h ∙ ap (λ (y : Named A). y ∷ drop (i + 1) t) (sym at)
 
   -- b says whether it bears the name s
-  module _ (s : List ℕ) (b : Bool) (k : Decides b (x.0.now ≡ s)) where
+  module _ (s : List ℕ) (b : Bool) (k : b ≡ bytes_eq x.0.now s) where
     bearer : bears (entries (drop i t)) s ≡ cond b (Some x.1) (bears (entries (drop (i + 1) t)) s)
-    bearer = let q = same_from_decides b (bytes_eq x.0.now s) k (bytes_eq-Decides x.0.now s) in rw (split, q) refl
+    bearer = rw (split, k) refl
 
     pub past : b ≡ false → bears (entries (drop i t)) s ≡ bears (entries (drop (i + 1) t)) s
     past e = let p = bearer in rw e at p

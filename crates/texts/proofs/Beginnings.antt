@@ -1,5 +1,5 @@
 -- What follows a beginning, where the text begins so, and where it does not.
-use Rattle.std.proofs.Common.{◌≡◌, ℕ, ◌+◌, eqb, List, [], ◌∷◌, ◌++◌, length, drop, Some, None, Option, sym, refl, ap, ◌∙◌, ⊎_elim, MutBor, MatchOption}
+use Rattle.std.proofs.Common.{◌≡◌, ℕ, ◌+◌, eqb, List, [], ◌∷◌, ◌++◌, length, drop, Some, None, Option, sym, refl, ap, ◌∙◌, ⊎_elim, Bor, MatchOption}
 use Rattle.std.specs.Str.Pattern.{FindsTextPrefix}
 use Rattle.std.specs.Option.{option_map}
 use Rattle.std.proofs.lemmas.Bool.{cases_Bool, eq-eqb, eqb-true}
@@ -19,6 +19,6 @@ not_begun (b ∷ p) (x ∷ xs) h =
     (cases_Bool (eqb b x))
 
 -- the clause of `strip_prefix` at a text
-pub stripped : (p s : List ℕ) (r : Option (MutBor (List ℕ))) → MatchOption r (FindsTextPrefix p s None) (λ x. (n : ℕ) × FindsTextPrefix p s (Some n) × (x.now ≡ drop n s) × (length x.now + n ≡ length s)) → option_map (λ x. x.now) r ≡ follows p s
+pub stripped : (p s : List ℕ) (r : Option (Bor (List ℕ))) → MatchOption r (FindsTextPrefix p s None) (λ x. (n : ℕ) × FindsTextPrefix p s (Some n) × (x.now ≡ drop n s) × (length x.now + n ≡ length s)) → option_map (λ x. x.now) r ≡ follows p s
 stripped p s None h = sym (not_begun p s h)
 stripped p s (Some x) h = ap Some h.2 ∙ sym (begun p (drop h.0 s)) ∙ ap (follows p) (sym h.1.1)

@@ -1,9 +1,8 @@
 -- The place of the character after the first n.
-use Rattle.std.proofs.Common.{◌≡◌, ℕ, zero, suc, ◌+◌, ◌-◌, ◌<◌, ◌≤◌, Bool, true, false, cond, List, [], ◌∷◌, ◌++◌, length, Some, None, IsUtf8, Option, sym, refl, ap, ◌∙◌, arith}
+use Rattle.std.proofs.Common.{◌≡◌, ℕ, suc, ◌+◌, ◌-◌, ◌<◌, List, [], ◌∷◌, ◌++◌, length, Some, None, IsUtf8, refl, ap, ◌∙◌, arith}
 use lib.Utf8.{encode}
-use Rattle.std.specs.Char.{len_utf8}
 use Rattle.std.specs.Str.{chars}
-use Rattle.std.proofs.lemmas.Str.{chars_past_char, chars-nil, length-encode, IsUtf8-past_char}
+use Rattle.std.proofs.lemmas.Str.{chars_past_char, chars-nil, length-encode}
 use Rattle.texts.specs.Texts.{place_after}
 
 module _ (at c : ℕ) (bs rest : List ℕ) (u : IsUtf8 bs) (e : bs ≡ encode c ++ rest) where

@@ -1,7 +1,7 @@
 -- What is left of a text between white space.
-use Rattle.std.proofs.Common.{◌≡◌, ℕ, ◌+◌, ◌-◌, ◌≤◌, Bool, true, false, List, [], ◌∷◌, ◌++◌, reverse, length, take, drop, IsUtf8, sym, refl, ap, ◌∙◌, append_assoc, append-nil, add_assoc, arith, length-append}
+use Rattle.std.proofs.Common.{◌≡◌, ℕ, ◌+◌, ◌-◌, ◌≤◌, Bool, true, List, [], ◌∷◌, ◌++◌, reverse, length, take, drop, IsUtf8, sym, refl, ap, ◌∙◌, append_assoc, append-nil, arith, length-append}
 use lib.Utf8.{scalar, encode, encodes}
-use Rattle.std.specs.Char.{len_utf8, is_whitespace, is_not_whitespace}
+use Rattle.std.specs.Char.{is_whitespace, is_not_whitespace}
 use Rattle.std.specs.Str.{NonePass, NoCharPasses, EmptyOrStartsWithPassing, EmptyOrEndsWithPassing, chars as decodes}
 use Rattle.std.proofs.lemmas.List.{reverse-append, reverse-reverse, take-append-drop, take_at}
 use Rattle.std.proofs.lemmas.Bool.{not-true, not-false}

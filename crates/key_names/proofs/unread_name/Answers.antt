@@ -3,4 +3,4 @@ use Rattle.key_names.proofs.unread_name.Goals as goal
 
 pub returns : goal.returns
 unfolding unread_keys
-returns c = c.name-of.ensures
+returns c = c.name_of.ensures

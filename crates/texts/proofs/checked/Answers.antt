@@ -10,4 +10,4 @@ returns-in-Err c =
     let bs = c.args.bytes.now in
     let h = c.in-Err.ensures.cases in
     let short = h.1.short in
-    (not_utf8 bs h.0, c.valid-up-to.ensures ∙ sym (front_is bs _ (length bs) (omega arith) h.1.front h.1.longest))
+    (not_utf8 bs h.0, c.valid_up_to.ensures ∙ sym (front_is bs _ (length bs) (omega arith) h.1.front h.1.longest))

@@ -14,12 +14,12 @@ use Rattle.frame_reading.proofs.BodyLaws.{codes_chain}
 use Rattle.frame_reading.proofs.FrameTelling.{quad_break, quad_goes}
 use Rattle.frame_reading.proofs.bodies.read_codes.Goals as goal
 
-pub returns-in-err-q : goal.returns-in-err-q
-returns-in-err-q c =
+pub returns-in_err-q : goal.returns-in_err-q
+returns-in_err-q c =
     let v = c.loop.invariant in
     let t = c.loop.text in
     let less : length (characters t) < c.args.count = omega (arith, v.0, length-characters t) in
-    v.2 c.from-residual.result (quad_break Scalar (codes_chain c.args.count c.args.head c.args.last c.requires.ready (characters t) t.characters less) c.args.bytes.now c.loop.next c.from-residual.result c.in-err-q.field-0.0 c.from-residual.ensures.1 c.in-err-q.ensures)
+    v.2 c.from_residual.result (quad_break Scalar (codes_chain c.args.count c.args.head c.args.last c.requires.ready (characters t) t.characters less) c.args.bytes.now c.loop.next c.from_residual.result c.in_err-q.field-0.0 c.from_residual.ensures.1 c.in_err-q.ensures)
 
 pub loop-preserved : goal.loop-preserved
 loop-preserved c =
@@ -28,22 +28,22 @@ loop-preserved c =
     let k = c.args.count in
     let h = c.args.head in
     let l = c.args.last in
-    let q = c.in-ok-q.q in
+    let q = c.in_ok-q.q in
     let less : length (characters t) < c.args.count = omega (arith, v.0, length-characters t) in
     let few : c.loop.text.count < 32 = omega (arith, v.0, subst (λ n. n ≤ 32) (length-replicate k 0) c.requires.ready.few) in
     let p = pushed c.in-Some.c t.count c.push.new.self.count (characters t) (characters c.push.new.self) c.push.result few c.push.ensures in
     let is : characters c.push.new.self ≡ characters t ++ q.value ∷ [] = p.1 ∙ ap (λ x. characters t ++ x ∷ []) c.in-Some.ensures.checked.1 in
-    (omega (arith, p.0, v.0), c.in-ok-q.ensures.1, λ r x. v.2 r (quad_goes Scalar (codes_chain k h l c.requires.ready (characters t) t.characters less) c.args.bytes.now c.loop.next q c.in-ok-q.ensures r (subst (λ ds. Tells (AtCodes k h l ds) c.args.bytes.now q.next r) is x)))
+    (omega (arith, p.0, v.0), c.in_ok-q.ensures.1, λ r x. v.2 r (quad_goes Scalar (codes_chain k h l c.requires.ready (characters t) t.characters less) c.args.bytes.now c.loop.next q c.in_ok-q.ensures r (subst (λ ds. Tells (AtCodes k h l ds) c.args.bytes.now q.next r) is x)))
 
-pub returns-in-Some-sequence-from : goal.returns-in-Some-sequence-from
-returns-in-Some-sequence-from c =
+pub returns-in-Some-sequence_from : goal.returns-in-Some-sequence_from
+returns-in-Some-sequence_from c =
     let v = c.loop.invariant in
     let t = c.loop.text in
     let k = c.args.count in
     let h = c.args.head in
     let l = c.args.last in
-    let s = c.in-Some-sequence-from.sequence in
-    let is = c.in-Some-sequence-from.ensures in
+    let s = c.in-Some-sequence_from.sequence in
+    let is = c.in-Some-sequence_from.ensures in
     let n : length (characters t) ≡ c.args.count = omega (arith, v.0, length-characters t) in
     let rest = drop c.loop.next c.args.bytes.now in
     let good : Good k (filled h l (characters t)) = (subst Sound is (valid (Sequence s)), n) in

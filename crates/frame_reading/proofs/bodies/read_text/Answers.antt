@@ -5,5 +5,5 @@ use Rattle.frame_reading.specs.declared.found.Quad.{Quad}
 use Rattle.frame_reading.proofs.BodyLaws.{text_chain}
 use Rattle.frame_reading.proofs.bodies.read_text.Goals as goal
 
-pub returns-in-err-q : goal.returns-in-err-q
-returns-in-err-q c = chain_break text_chain (λ (q : Quad). q.value) (λ q. q.next) (λ (x : Seen). means x.report) (λ x. x.length) c.args.bytes.now c.args.at c.from-residual.result c.in-err-q.field-0.0 c.from-residual.ensures.1 c.in-err-q.ensures
+pub returns-in_err-q : goal.returns-in_err-q
+returns-in_err-q c = chain_break text_chain (λ (q : Quad). q.value) (λ q. q.next) (λ (x : Seen). means x.report) (λ x. x.length) c.args.bytes.now c.args.at c.from_residual.result c.in_err-q.field-0.0 c.from_residual.ensures.1 c.in_err-q.ensures

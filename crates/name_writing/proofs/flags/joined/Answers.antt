@@ -5,16 +5,16 @@ use Rattle.name_writing.specs.Lines.{text}
 use Rattle.name_writing.proofs.Labels.{step, room_step, end}
 use Rattle.name_writing.proofs.flags.joined.Goals as goal
 
-pub push-label-requires : goal.push-label-requires
-push-label-requires c = omega (arith, room_step c.args.table.now c.loop-e.e-index c.loop-e-test.true, c.loop-e.invariant.1)
+pub push_label-requires : goal.push_label-requires
+push_label-requires c = omega (arith, room_step c.args.table.now c.loop-e.e-index c.loop-e-test.true, c.loop-e.invariant.1)
 
 pub loop-e-preserved : goal.loop-e-preserved
 loop-e-preserved c =
     let t = c.args.table.now in
     let i = c.loop-e.e-index in
     let s = step t i c.args.bits (text c.loop-e.line) c.loop-e-test.true in (
-      ap (labels (entries (drop (i + 1) t)) c.args.bits) c.push-label.ensures.text ∙ sym s ∙ c.loop-e.invariant.0,
-      omega (arith, room_step t i c.loop-e-test.true, c.push-label.ensures.len, c.loop-e.invariant.1),
+      ap (labels (entries (drop (i + 1) t)) c.args.bits) c.push_label.ensures.text ∙ sym s ∙ c.loop-e.invariant.0,
+      omega (arith, room_step t i c.loop-e-test.true, c.push_label.ensures.len, c.loop-e.invariant.1),
     )
 
 pub returns : goal.returns

@@ -7,11 +7,11 @@ use Rattle.name_writing.proofs.pieces.+push_decimal.Goals as goal
 pub push-requires : goal.push-requires
 push-requires t c = omega (arith, decimal_nonempty c.args.n (omega arith))
 
-pub push-decimal-requires : goal.push-decimal-requires
-push-decimal-requires t c = (omega arith, omega (arith, longer c.args.n (omega arith) (omega arith)))
+pub push_decimal-requires : goal.push_decimal-requires
+push_decimal-requires t c = (omega arith, omega (arith, longer c.args.n (omega arith) (omega arith)))
 
 pub push-requires-else-n-lt10 : goal.push-requires-else-n-lt10
-push-requires-else-n-lt10 t c = omega (arith, longer c.args.n (omega arith) (omega arith), c.push-decimal.ensures.len)
+push-requires-else-n-lt10 t c = omega (arith, longer c.args.n (omega arith) (omega arith), c.push_decimal.ensures.len)
 
 pub returns-then-n-lt10 : goal.returns-then-n-lt10
 returns-then-n-lt10 t c =
@@ -22,6 +22,6 @@ pub returns-else-n-lt10 : goal.returns-else-n-lt10
 returns-else-n-lt10 t c =
     let l = longer c.args.n (omega arith) (omega arith) in
     record {
-      text = c.push-else-n-lt10.ensures.text ∙ ap (λ (xs : List ℕ). xs ++ (48 + c.args.n % 10) ∷ []) c.push-decimal.ensures.text ∙ last (text c.args.line.now) c.args.n (omega arith) (omega arith);
-      len = omega (arith, l, c.push-decimal.ensures.len, c.push-else-n-lt10.ensures.len);
+      text = c.push-else-n-lt10.ensures.text ∙ ap (λ (xs : List ℕ). xs ++ (48 + c.args.n % 10) ∷ []) c.push_decimal.ensures.text ∙ last (text c.args.line.now) c.args.n (omega arith) (omega arith);
+      len = omega (arith, l, c.push_decimal.ensures.len, c.push-else-n-lt10.ensures.len);
     }

@@ -3,4 +3,4 @@ use Rattle.names.proofs.phys_names.unread_name.Goals as goal
 
 pub returns : goal.returns
 unfolding unread_places
-returns c = c.name-of.ensures
+returns c = c.name_of.ensures

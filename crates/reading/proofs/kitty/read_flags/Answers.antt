@@ -5,11 +5,11 @@ use Rattle.pieces.specs.declared.found.Seen.{Seen}
 use Rattle.reading.proofs.KittyReading.{flags_stage, flags_none}
 use Rattle.reading.proofs.kitty.read_flags.Goals as goal
 
-pub returns-in-err-e : goal.returns-in-err-e
-returns-in-err-e c = stage_break flags_stage (λ (x : Seen). means x.report) (λ x. x.length) c.args.bytes.now c.args.at c.from-residual.result c.in-err-e.field-0.0 c.from-residual.ensures.1 c.in-err-e.ensures
+pub returns-in_err-e : goal.returns-in_err-e
+returns-in_err-e c = stage_break flags_stage (λ (x : Seen). means x.report) (λ x. x.length) c.args.bytes.now c.args.at c.from_residual.result c.in_err-e.field-0.0 c.from_residual.ensures.1 c.in_err-e.ensures
 
 pub returns-in-None : goal.returns-in-None
-returns-in-None c = stage_stops flags_stage (λ (x : Seen). means x.report) (λ x. x.length) c.args.bytes.now c.args.at c.in-ok-e.e c.in-ok-e.ensures None c.in-None.is (λ m s p. p)
+returns-in-None c = stage_stops flags_stage (λ (x : Seen). means x.report) (λ x. x.length) c.args.bytes.now c.args.at c.in_ok-e.e c.in_ok-e.ensures None c.in-None.is (λ m s p. p)
 
 pub returns-then-e-ne117 : goal.returns-then-e-ne117
-returns-then-e-ne117 c = stage_stops flags_stage (λ (x : Seen). means x.report) (λ x. x.length) c.args.bytes.now c.args.at c.in-ok-e.e c.in-ok-e.ensures (Some c.in-Some.n) c.in-Some.is (flags_none c.in-Some.n c.in-ok-e.e.mark c.if-e-ne117.true)
+returns-then-e-ne117 c = stage_stops flags_stage (λ (x : Seen). means x.report) (λ x. x.length) c.args.bytes.now c.args.at c.in_ok-e.e c.in_ok-e.ensures (Some c.in-Some.n) c.in-Some.is (flags_none c.in-Some.n c.in_ok-e.e.mark c.if-e-ne117.true)

@@ -6,8 +6,8 @@ use Rattle.reading.specs.Reading.{Fills}
 use Rattle.reading.proofs.Readers.{answers}
 use Rattle.reading.proofs.once.round_trip.Goals as goal
 
-pub slice-bounds-read-end : goal.slice-bounds-read-end
-slice-bounds-read-end g c =
+pub slice_bounds-read-end : goal.slice_bounds-read-end
+slice_bounds-read-end g c =
     let m = means c.args.report.now in
     let h = g.met.R.Dialect.sized c.args.reader.now m (valid c.args.report.now) in
     let l : c.write-count.result ≤ 512 = omega (arith, h.1, c.write-count.ensures.count) in

@@ -3,7 +3,7 @@ use Rattle.report.specs.Meanings.{means}
 use Rattle.report.proofs.Validity.{valid}
 use Rattle.replay.proofs.reports.answer_write.Goals as goal
 
-pub slice-bounds-put-bytes-end : goal.slice-bounds-put-bytes-end
-slice-bounds-put-bytes-end g c =
+pub slice_bounds-put_bytes-end : goal.slice_bounds-put_bytes-end
+slice_bounds-put_bytes-end g c =
     let sized = g.met.D.Dialect.sized c.args.dialect.now (means c.in-Ok.report) (valid c.in-Ok.report) in
     omega (arith, c.write-count.ensures.count, sized.1)

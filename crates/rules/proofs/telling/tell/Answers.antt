@@ -11,9 +11,9 @@ returns g c =
     let b = g.L.Layout.base c.args.layout.now in
     let laws : Lawful (g.L.Layout.base c.args.layout.now) = record { settled = g.met.L.Layout.settled c.args.layout.now; kept = g.met.L.Layout.kept c.args.layout.now } in
     let e = event_of c.args.key in
-    let said = sym c.first-said.ensures in
+    let said = sym c.first_said.ensures in
     record {
-      value = c.first-said.ensures;
+      value = c.first_said.ensures;
       clear = λ d. subst (Told Clear) said (told_clear b c.args.flags.bits e d);
       own = λ k h. subst (Told (Own b)) said (own_number b c.args.flags.bits e k laws c.args.key.passed h);
     }

@@ -7,8 +7,8 @@ use Rattle.events.specs.Passed.{event_of}
 use Rattle.events.proofs.Fits.{fit}
 use Rattle.rules.proofs.typing.text_of.Goals as goal
 
-pub composed-text-requires : goal.composed-text-requires
-composed-text-requires c =
+pub composed_text-requires : goal.composed_text-requires
+composed_text-requires c =
     let k = c.in-Composed.ensures in
     let f = subst Fit (sym k) (fit (event_of c.args.key) c.args.key.passed) in
     let t = c.text.ensures ∙ ap bytes_of (sym k) in

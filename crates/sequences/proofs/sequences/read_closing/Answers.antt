@@ -8,11 +8,11 @@ use Rattle.sequences.proofs.sequences.read_closing.Goals as goal
 pub returns-then-mark-eq59 : goal.returns-then-mark-eq59
 returns-then-mark-eq59 c =
     let h = c.args.head in
-    let r = tells_same (AtText h []) (AtClosing h 59) (text_closing h) (closing_text h) c.args.bytes.now c.args.at c.read-text.result c.read-text.ensures in
-    subst (λ b. Tells (AtClosing h b) c.args.bytes.now c.args.at c.read-text.result) (sym c.if-mark-eq59.true) r
+    let r = tells_same (AtText h []) (AtClosing h 59) (text_closing h) (closing_text h) c.args.bytes.now c.args.at c.read_text.result c.read_text.ensures in
+    subst (λ b. Tells (AtClosing h b) c.args.bytes.now c.args.at c.read_text.result) (sym c.if-mark-eq59.true) r
 
-pub returns-in-default : goal.returns-in-default
-returns-in-default c = closing_none c.args.head c.args.mark c.args.bytes.now c.args.at c.if-mark-eq59.false c.in-default.ensures
+pub returns-in_default : goal.returns-in_default
+returns-in_default c = closing_none c.args.head c.args.mark c.args.bytes.now c.args.at c.if-mark-eq59.false c.in_default.ensures
 
 pub returns-in-Some : goal.returns-in-Some
 returns-in-Some c =

@@ -22,47 +22,47 @@ loop-init c = (c.none-text.ensures, λ r p. subst (λ cs. Tells (AtText c.args.h
     none : (t : Text) → t.count ≡ 0 → characters t ≡ []
     none t e = search arith
 
-pub returns-in-err-e : goal.returns-in-err-e
-returns-in-err-e c =
+pub returns-in_err-e : goal.returns-in_err-e
+returns-in_err-e c =
     let v = c.loop.invariant in
     let l : c.loop.text.count < 32 = omega (arith, v.0) in
-    v.1 c.from-residual.result (stage_break (next c.args.head c.loop.text c.requires l) c.args.bytes.now c.loop.next c.from-residual.result c.in-err-e.field-0.0 c.from-residual.ensures.1 c.in-err-e.ensures)
+    v.1 c.from_residual.result (stage_break (next c.args.head c.loop.text c.requires l) c.args.bytes.now c.loop.next c.from_residual.result c.in_err-e.field-0.0 c.from_residual.ensures.1 c.in_err-e.ensures)
 
-pub returns-in-default : goal.returns-in-default
-returns-in-default c =
+pub returns-in_default : goal.returns-in_default
+returns-in_default c =
     let v = c.loop.invariant in
     let l : c.loop.text.count < 32 = omega (arith, v.0) in
-    let e = c.in-ok-e.e in
-    v.1 (Err Unknown) (stage_stops (next c.args.head c.loop.text c.requires l) c.args.bytes.now c.loop.next e c.in-ok-e.ensures e.value refl (text_strange c.args.head (characters c.loop.text) e.value e.mark c.in-default.ensures))
+    let e = c.in_ok-e.e in
+    v.1 (Err Unknown) (stage_stops (next c.args.head c.loop.text c.requires l) c.args.bytes.now c.loop.next e c.in_ok-e.ensures e.value refl (text_strange c.args.head (characters c.loop.text) e.value e.mark c.in_default.ensures))
 
 pub returns-then-e-eq117 : goal.returns-then-e-eq117
 returns-then-e-eq117 c =
     let v = c.loop.invariant in
     let l : c.loop.text.count < 32 = omega (arith, v.0) in
     let h = c.args.head in
-    let e = c.in-ok-e.e in
+    let e = c.in_ok-e.e in
     let cs = characters c.loop.text in
     let q = pushed c.in-Some.c c.loop.text.count c.push.new.self.count cs (characters c.push.new.self) c.push.result l c.push.ensures in
     let m = subst (λ ds. Makes (filled h U ds) e.next c.sequence.result) q.1 c.sequence.ensures in
-    let r = text_made h (cs ++ c.in-Some.c ∷ []) c.args.bytes.now e.next c.in-ok-e.ensures.1 c.sequence.result m in
-    v.1 c.sequence.result (stage_goes (next h c.loop.text c.requires l) c.args.bytes.now c.loop.next e c.in-ok-e.ensures (Some c.in-Some.c) 117 c.in-Some.ensures.0 c.if-e-eq117.true c.sequence.result r)
+    let r = text_made h (cs ++ c.in-Some.c ∷ []) c.args.bytes.now e.next c.in_ok-e.ensures.1 c.sequence.result m in
+    v.1 c.sequence.result (stage_goes (next h c.loop.text c.requires l) c.args.bytes.now c.loop.next e c.in_ok-e.ensures (Some c.in-Some.c) 117 c.in-Some.ensures.0 c.if-e-eq117.true c.sequence.result r)
 
 pub returns-then-e-ne58 : goal.returns-then-e-ne58
 returns-then-e-ne58 c =
     let v = c.loop.invariant in
     let l : c.loop.text.count < 32 = omega (arith, v.0) in
-    let e = c.in-ok-e.e in
-    v.1 (Err Unknown) (stage_stops (next c.args.head c.loop.text c.requires l) c.args.bytes.now c.loop.next e c.in-ok-e.ensures (Some c.in-Some.c) c.in-Some.ensures.0 (text_none c.args.head (characters c.loop.text) c.in-Some.c e.mark c.if-e-ne58.true c.if-e-eq117.false))
+    let e = c.in_ok-e.e in
+    v.1 (Err Unknown) (stage_stops (next c.args.head c.loop.text c.requires l) c.args.bytes.now c.loop.next e c.in_ok-e.ensures (Some c.in-Some.c) c.in-Some.ensures.0 (text_none c.args.head (characters c.loop.text) c.in-Some.c e.mark c.if-e-ne58.true c.if-e-eq117.false))
 
 pub loop-preserved : goal.loop-preserved
 loop-preserved c =
     let v = c.loop.invariant in
     let l : c.loop.text.count < 32 = omega (arith, v.0) in
     let h = c.args.head in
-    let e = c.in-ok-e.e in
+    let e = c.in_ok-e.e in
     let cs = characters c.loop.text in
     let q = pushed c.in-Some.c c.loop.text.count c.push.new.self.count cs (characters c.push.new.self) c.push.result l c.push.ensures in
-    (omega (arith, q.0, v.0), λ r p. v.1 r (stage_goes (next h c.loop.text c.requires l) c.args.bytes.now c.loop.next e c.in-ok-e.ensures (Some c.in-Some.c) 58 c.in-Some.ensures.0 c.if-e-ne58.false r (subst (λ ds. Tells (AtText h ds) c.args.bytes.now e.next r) q.1 p)))
+    (omega (arith, q.0, v.0), λ r p. v.1 r (stage_goes (next h c.loop.text c.requires l) c.args.bytes.now c.loop.next e c.in_ok-e.ensures (Some c.in-Some.c) 58 c.in-Some.ensures.0 c.if-e-ne58.false r (subst (λ ds. Tells (AtText h ds) c.args.bytes.now e.next r) q.1 p)))
 
 pub returns : goal.returns
 returns c =

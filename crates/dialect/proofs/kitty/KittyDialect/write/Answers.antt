@@ -15,18 +15,18 @@ whole m a b bs n v l e w =
     record { count = r.0; after = r.1 }
 
 pub returns-in-Text : goal.returns-in-Text
-returns-in-Text c = whole (means c.args.report.now) _ _ _ _ (valid c.args.report.now) c.told-out (ap (λ r. kitty_bytes (means r)) c.in-Text.is ∙ ap encode (sym c.code.ensures)) c.put-char.ensures
+returns-in-Text c = whole (means c.args.report.now) _ _ _ _ (valid c.args.report.now) c.told-out (ap (λ r. kitty_bytes (means r)) c.in-Text.is ∙ ap encode (sym c.code.ensures)) c.put_char.ensures
 
 pub returns-in-Old : goal.returns-in-Old
-returns-in-Old c = whole (means c.args.report.now) _ _ _ _ (valid c.args.report.now) c.told-out (ap (λ r. kitty_bytes (means r)) c.in-Old.is ∙ ap (λ x. 27 ∷ encode x) (sym c.code-in-Old.ensures)) (wrote_more c.put-byte-at.ensures c.put-char-in-Old.ensures)
+returns-in-Old c = whole (means c.args.report.now) _ _ _ _ (valid c.args.report.now) c.told-out (ap (λ r. kitty_bytes (means r)) c.in-Old.is ∙ ap (λ x. 27 ∷ encode x) (sym c.code-in-Old.ensures)) (wrote_more c.put_byte-at.ensures c.put_char-in-Old.ensures)
 
 pub returns-in-Answer : goal.returns-in-Answer
-returns-in-Answer c = whole (means c.args.report.now) _ _ _ _ (valid c.args.report.now) c.told-out (ap (λ r. kitty_bytes (means r)) c.in-Answer.is ∙ ap (λ n. 27 ∷ 91 ∷ 63 ∷ (decimal n ++ (117 ∷ []))) (sym c.bits.ensures)) (wrote_more (c.put-bytes-at.ensures.fits (omega arith)) (wrote_more c.put-code-at.ensures.wrote c.put-byte.ensures))
+returns-in-Answer c = whole (means c.args.report.now) _ _ _ _ (valid c.args.report.now) c.told-out (ap (λ r. kitty_bytes (means r)) c.in-Answer.is ∙ ap (λ n. 27 ∷ 91 ∷ 63 ∷ (decimal n ++ (117 ∷ []))) (sym c.bits.ensures)) (wrote_more (c.put_bytes-at.ensures.fits (omega arith)) (wrote_more c.put_code-at.ensures.wrote c.put_byte.ensures))
 
 -- the long form
-pub returns-else-is-plain : goal.returns-else-is-plain
-returns-else-is-plain c =
+pub returns-else-is_plain : goal.returns-else-is_plain
+returns-else-is_plain c =
     let f = fields c.in-Sequence.s in
-    let p : plain f ≡ false = sym c.is-plain.ensures ∙ c.if-is-plain.false in
+    let p : plain f ≡ false = sym c.is_plain.ensures ∙ c.if-is_plain.false in
     let e = ap (λ r. kitty_bytes (means r)) c.in-Sequence.is ∙ ap (λ b. 27 ∷ 91 ∷ cond b (69 ∷ []) (parts f)) p in
-    whole (means c.args.report.now) _ _ (27 ∷ 91 ∷ parts f) _ (valid c.args.report.now) c.told-out e (wrote_more (c.put-bytes-at-else-is-plain.ensures.fits (omega arith)) c.put-parts.ensures)
+    whole (means c.args.report.now) _ _ (27 ∷ 91 ∷ parts f) _ (valid c.args.report.now) c.told-out e (wrote_more (c.put_bytes-at-else-is_plain.ensures.fits (omega arith)) c.put_parts.ensures)

@@ -11,9 +11,9 @@ returns-in-Sequence c =
     let s = c.in-Sequence.s in
     let m = means c.args.report.now in
     let is : m ≡ sequence (fields s) = ap means c.in-Sequence.is in
-    let count : length c.as-slice.result.now ≡ length (fields s).text = ap length c.as-slice.ensures in
-    let long : 18 + 4 * length c.as-slice.result.now ≡ length (framed (sequence (fields s))) = omega (arith, count, length-codes (fields s).text) in
-    let e : le16 (18 + 4 * length c.as-slice.result.now) ++ framed (sequence (fields s)) ≡ frame_bytes m = ap (λ k. le16 k ++ framed (sequence (fields s))) long ∙ ap frame_bytes (sym is) in
-    let whole = wrote_as {ys = frame_bytes m} e (wrote_more c.put-head-at-in-Sequence.ensures c.put-fields.ensures) in
-    let r = wrote_front c.args.out.now c.put-fields.new.out c.put-fields.result (frame_bytes m) (omega (arith, frame_sized m (valid c.args.report.now))) whole in
+    let count : length c.as_slice.result.now ≡ length (fields s).text = ap length c.as_slice.ensures in
+    let long : 18 + 4 * length c.as_slice.result.now ≡ length (framed (sequence (fields s))) = omega (arith, count, length-codes (fields s).text) in
+    let e : le16 (18 + 4 * length c.as_slice.result.now) ++ framed (sequence (fields s)) ≡ frame_bytes m = ap (λ k. le16 k ++ framed (sequence (fields s))) long ∙ ap frame_bytes (sym is) in
+    let whole = wrote_as {ys = frame_bytes m} e (wrote_more c.put_head-at-in-Sequence.ensures c.put_fields.ensures) in
+    let r = wrote_front c.args.out.now c.put_fields.new.out c.put_fields.result (frame_bytes m) (omega (arith, frame_sized m (valid c.args.report.now))) whole in
     record { count = r.0; after = r.1 }

@@ -3,8 +3,8 @@ use lib.Utf8.{scalar}
 use Rattle.report.proofs.Rows.{taken_set, scalars_end}
 use Rattle.report.proofs.text.Text.push.Goals as goal
 
-pub invariant-of-self : goal.invariant-of-self
-invariant-of-self c =
+pub invariant_of-self : goal.invariant_of-self
+invariant_of-self c =
     let t = c.args.self.now in
     let h : c.args.self.now.count < length c.args.self.now.codes = omega (arith, c.args.self.now.whole) in
     let s : scalar c.args.c ≡ true = search rules in

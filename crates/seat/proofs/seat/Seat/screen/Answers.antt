@@ -7,8 +7,8 @@ use Rattle.seat.specs.Seats.{view_of}
 use Rattle.seat.proofs.Turns.{no, yes, laws_of}
 use Rattle.seat.proofs.seat.Seat.screen.Goals as goal
 
-pub returns-in-default : goal.returns-in-default
-returns-in-default g c =
+pub returns-in_default : goal.returns-in_default
+returns-in_default g c =
     let v = view_of g.W.Wire.waiting g.W.Wire.capacity g.L.Layout.base g.D.Dialect.bytes c.args.self.now in
     let laws = laws_of _ _ _ (g.met.L.Layout.settled c.args.self.now.layout) (g.met.L.Layout.kept c.args.self.now.layout) (g.met.D.Dialect.sized c.args.self.now.dialect) (g.met.D.Dialect.apart c.args.self.now.dialect) in
     let s = no v (Screen c.args.screen) 10 0 (cond-false _ _ _ (le-ltb c.args.screen 2 (omega arith))) in

@@ -5,8 +5,8 @@ use Rattle.seat.specs.Seats.{view_of}
 use Rattle.seat.proofs.Sending.{front, taken, refused, with_capacity}
 use Rattle.seat.proofs.seat.Seat.send.Goals as goal
 
-pub slice-bounds-put-end : goal.slice-bounds-put-end
-slice-bounds-put-end g c =
+pub slice_bounds-put-end : goal.slice_bounds-put-end
+slice_bounds-put-end g c =
     let sized = g.met.D.Dialect.sized c.args.self.now.dialect (means c.args.report.now) (valid c.args.report.now) in
     omega (arith, c.write-n.ensures.count, sized.1)
 

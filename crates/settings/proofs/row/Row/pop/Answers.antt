@@ -2,8 +2,8 @@ use Rattle.std.proofs.Common.{◌∙◌, arith}
 use Rattle.settings.proofs.Stacked.{pop_some, pop_all, front_zero, flags_set}
 use Rattle.settings.proofs.row.Row.pop.Goals as goal
 
-pub invariant-of-self-else-n-self : goal.invariant-of-self-else-n-self
-invariant-of-self-else-n-self c =
+pub invariant_of-self-else-n-self : goal.invariant_of-self-else-n-self
+invariant_of-self-else-n-self c =
     let r = c.args.self.now in
     (omega arith, (omega arith, (flags_set r.settings 0 0 r.flags (omega arith) (omega arith), tt)))
 

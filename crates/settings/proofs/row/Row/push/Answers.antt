@@ -3,8 +3,8 @@ use Rattle.settings.specs.Stack.{pushed}
 use Rattle.settings.proofs.Stacked.{push_room, flags_set, flags_shift}
 use Rattle.settings.proofs.row.Row.push.Goals as goal
 
-pub invariant-of-self : goal.invariant-of-self
-invariant-of-self c =
+pub invariant_of-self : goal.invariant_of-self
+invariant_of-self c =
     let r = c.args.self.now in
     (omega arith, (omega arith, (flags_set r.settings r.held c.bits-bits.result r.flags (omega arith) (omega (arith, c.bits-bits.ensures, c.args.flags.named)), tt)))
 

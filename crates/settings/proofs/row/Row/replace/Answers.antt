@@ -3,8 +3,8 @@ use Rattle.settings.specs.Stack.{topped}
 use Rattle.settings.proofs.Stacked.{topped_is, flags_set}
 use Rattle.settings.proofs.row.Row.replace.Goals as goal
 
-pub invariant-of-self : goal.invariant-of-self
-invariant-of-self c =
+pub invariant_of-self : goal.invariant_of-self
+invariant_of-self c =
     let r = c.args.self.now in
     (r.some, (r.most, (flags_set r.settings (r.held - 1) c.bits.result r.flags (omega arith) (omega (arith, c.bits.ensures, c.args.flags.named)), tt)))
 

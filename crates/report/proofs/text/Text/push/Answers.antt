@@ -9,7 +9,7 @@ invariant_of-self c =
     let h : c.args.self.now.count < length c.args.self.now.codes = omega (arith, c.args.self.now.whole) in
     let s : scalar c.args.c ≡ true = search rules in
     let e = scalars_end (take t.count t.codes) c.args.c t.characters s in
-    (omega arith, (simp length-set t.whole, (rw (taken_set t.codes t.count c.args.c h) e, tt)))
+    record { few = omega arith; whole = simp length-set t.whole; characters = rw (taken_set t.codes t.count c.args.c h) e }
 
 pub returns : goal.returns
 returns c =

@@ -5,7 +5,7 @@ use Rattle.settings.proofs.row.Row.pop.Goals as goal
 pub invariant_of-self-else-n-self : goal.invariant_of-self-else-n-self
 invariant_of-self-else-n-self c =
     let r = c.args.self.now in
-    (omega arith, (omega arith, (flags_set r.settings 0 0 r.flags (omega arith) (omega arith), tt)))
+    record { some = omega arith; most = omega arith; flags = flags_set r.settings 0 0 r.flags (omega arith) (omega arith) }
 
 pub returns-then-n-self : goal.returns-then-n-self
 returns-then-n-self c =

@@ -6,12 +6,12 @@ use Rattle.settings.proofs.row.Row.push.Goals as goal
 pub invariant_of-self : goal.invariant_of-self
 invariant_of-self c =
     let r = c.args.self.now in
-    (omega arith, (omega arith, (flags_set r.settings r.held c.bits-bits.result r.flags (omega arith) (omega (arith, c.bits-bits.ensures, c.args.flags.named)), tt)))
+    record { some = omega arith; most = omega arith; flags = flags_set r.settings r.held c.bits-bits.result r.flags (omega arith) (omega (arith, c.bits-bits.ensures, c.args.flags.named)) }
 
-pub way-make·self : goal.way-make·self
-way-make·self c =
+pub invariant_of-self-else-self-lt8 : goal.invariant_of-self-else-self-lt8
+invariant_of-self-else-self-lt8 c =
     let r = c.args.self.now in
-    (omega arith, (omega arith, (flags_shift r.settings c.bits-bits.result r.flags (omega (arith, c.bits-bits.ensures, c.args.flags.named)), tt)))
+    record { some = omega arith; most = omega arith; flags = flags_shift r.settings c.bits-bits.result r.flags (omega (arith, c.bits-bits.ensures, c.args.flags.named)) }
 
 pub returns-then-self-lt8 : goal.returns-then-self-lt8
 returns-then-self-lt8 c =

@@ -6,7 +6,7 @@ use Rattle.settings.proofs.row.Row.replace.Goals as goal
 pub invariant_of-self : goal.invariant_of-self
 invariant_of-self c =
     let r = c.args.self.now in
-    (r.some, (r.most, (flags_set r.settings (r.held - 1) c.bits.result r.flags (omega arith) (omega (arith, c.bits.ensures, c.args.flags.named)), tt)))
+    record { some = r.some; most = r.most; flags = flags_set r.settings (r.held - 1) c.bits.result r.flags (omega arith) (omega (arith, c.bits.ensures, c.args.flags.named)) }
 
 pub returns : goal.returns
 returns c =

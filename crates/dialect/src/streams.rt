@@ -5,7 +5,7 @@ use crate::dialect::Dialect;
 
 // The bytes of clear reports, one after another, tell the reports.
 pub fn stream_tells<D: Dialect>(d: &D) -> u8
-    ensures { Tells (bytes d.now) }
+    ensures { Tells (D.bytes d.now) }
 {
     let _ = d;
     0

@@ -21,7 +21,7 @@ pub returns-then-left-lt3 : goal.returns-then-left-lt3
 returns-then-left-lt3 c =
     let r = c.args.rule in
     let few : length (drop c.args.at c.args.bytes.now) < 3 = omega (arith, length-drop c.args.at c.args.bytes.now) in
-    quad_short r (drop c.args.at c.args.bytes.now) few (low_bytes c.args.bytes.now c.args.at (λ i. omega (arith, c.type-inv.bytes i)))
+    quad_short r (drop c.args.at c.args.bytes.now) few (low_bytes c.args.bytes.now c.args.at (λ i. omega (arith, c.type_inv.bytes i)))
 
 pub returns-then-allowed : goal.returns-then-allowed
 returns-then-allowed c =
@@ -31,9 +31,9 @@ returns-then-allowed c =
     let a = get_or g at 0 in
     let b = get_or g (at + 1) 0 in
     let d = get_or g (at + 2) 0 in
-    let x : get_or g at 0 < 256 = omega (arith, c.type-inv.bytes at) in
-    let y : get_or g (at + 1) 0 < 256 = omega (arith, c.type-inv.bytes (at + 1)) in
-    let z : get_or g (at + 2) 0 < 256 = omega (arith, c.type-inv.bytes (at + 2)) in
+    let x : get_or g at 0 < 256 = omega (arith, c.type_inv.bytes at) in
+    let y : get_or g (at + 1) 0 < 256 = omega (arith, c.type_inv.bytes (at + 1)) in
+    let z : get_or g (at + 2) 0 < 256 = omega (arith, c.type_inv.bytes (at + 2)) in
     subst (λ v. Takes (Quads r) v part) (sym (just_three g at (omega arith))) (quad_3 r a b d x y z 0 (omega arith) (ap (ok r) (sym (plus_none a b d)) ∙ sym c.allowed.ensures ∙ c.if-allowed.true))
 
 pub returns-then-allowed-2 : goal.returns-then-allowed-2
@@ -44,9 +44,9 @@ returns-then-allowed-2 c =
     let a = get_or g at 0 in
     let b = get_or g (at + 1) 0 in
     let d = get_or g (at + 2) 0 in
-    let x : get_or g at 0 < 256 = omega (arith, c.type-inv.bytes at) in
-    let y : get_or g (at + 1) 0 < 256 = omega (arith, c.type-inv.bytes (at + 1)) in
-    let z : get_or g (at + 2) 0 < 256 = omega (arith, c.type-inv.bytes (at + 2)) in
+    let x : get_or g at 0 < 256 = omega (arith, c.type_inv.bytes at) in
+    let y : get_or g (at + 1) 0 < 256 = omega (arith, c.type_inv.bytes (at + 1)) in
+    let z : get_or g (at + 2) 0 < 256 = omega (arith, c.type_inv.bytes (at + 2)) in
     subst (λ v. Takes (Quads r) v part) (sym (just_three g at (omega arith))) (quad_3 r a b d x y z 255 (omega arith) (ap (ok r) (sym (plus_all a b d)) ∙ sym c.allowed-then-left-lt4.ensures ∙ c.if-allowed-2.true))
 
 pub returns-then-left-lt4 : goal.returns-then-left-lt4
@@ -57,9 +57,9 @@ returns-then-left-lt4 c =
     let a = get_or g at 0 in
     let b = get_or g (at + 1) 0 in
     let d = get_or g (at + 2) 0 in
-    let x : get_or g at 0 < 256 = omega (arith, c.type-inv.bytes at) in
-    let y : get_or g (at + 1) 0 < 256 = omega (arith, c.type-inv.bytes (at + 1)) in
-    let z : get_or g (at + 2) 0 < 256 = omega (arith, c.type-inv.bytes (at + 2)) in
+    let x : get_or g at 0 < 256 = omega (arith, c.type_inv.bytes at) in
+    let y : get_or g (at + 1) 0 < 256 = omega (arith, c.type_inv.bytes (at + 1)) in
+    let z : get_or g (at + 2) 0 < 256 = omega (arith, c.type_inv.bytes (at + 2)) in
     subst (λ v. Takes (Quads r) v nothing) (sym (just_three g at (omega arith))) (quad_none_3 r a b d x y z (sym c.allowed.ensures ∙ c.if-allowed.false) (sym c.allowed-then-left-lt4.ensures ∙ c.if-allowed-2.false))
 
 pub returns-then-allowed-3 : goal.returns-then-allowed-3
@@ -70,11 +70,11 @@ returns-then-allowed-3 c =
     let a = get_or g at 0 in
     let b = get_or g (at + 1) 0 in
     let d = get_or g (at + 2) 0 in
-    let x : get_or g at 0 < 256 = omega (arith, c.type-inv.bytes at) in
-    let y : get_or g (at + 1) 0 < 256 = omega (arith, c.type-inv.bytes (at + 1)) in
-    let z : get_or g (at + 2) 0 < 256 = omega (arith, c.type-inv.bytes (at + 2)) in
+    let x : get_or g at 0 < 256 = omega (arith, c.type_inv.bytes at) in
+    let y : get_or g (at + 1) 0 < 256 = omega (arith, c.type_inv.bytes (at + 1)) in
+    let z : get_or g (at + 2) 0 < 256 = omega (arith, c.type_inv.bytes (at + 2)) in
     let f = get_or g (at + 3) 0 in
-    let w : get_or g (at + 3) 0 < 256 = omega (arith, c.type-inv.bytes (at + 3)) in
+    let w : get_or g (at + 3) 0 < 256 = omega (arith, c.type_inv.bytes (at + 3)) in
     (subst (λ v. Takes (Quads r) v (whole (a + b * 256 + d * 65536 + f * 16777216) (drop (at + 4) g))) (sym (view_4 g at (omega arith))) (quad_whole r a b d x y z f (drop (at + 4) g) w (sym c.allowed-2.ensures ∙ c.if-allowed-3.true)), omega arith)
 
 pub returns-else-allowed-3 : goal.returns-else-allowed-3
@@ -85,9 +85,9 @@ returns-else-allowed-3 c =
     let a = get_or g at 0 in
     let b = get_or g (at + 1) 0 in
     let d = get_or g (at + 2) 0 in
-    let x : get_or g at 0 < 256 = omega (arith, c.type-inv.bytes at) in
-    let y : get_or g (at + 1) 0 < 256 = omega (arith, c.type-inv.bytes (at + 1)) in
-    let z : get_or g (at + 2) 0 < 256 = omega (arith, c.type-inv.bytes (at + 2)) in
+    let x : get_or g at 0 < 256 = omega (arith, c.type_inv.bytes at) in
+    let y : get_or g (at + 1) 0 < 256 = omega (arith, c.type_inv.bytes (at + 1)) in
+    let z : get_or g (at + 2) 0 < 256 = omega (arith, c.type_inv.bytes (at + 2)) in
     let f = get_or g (at + 3) 0 in
-    let w : get_or g (at + 3) 0 < 256 = omega (arith, c.type-inv.bytes (at + 3)) in
+    let w : get_or g (at + 3) 0 < 256 = omega (arith, c.type_inv.bytes (at + 3)) in
     subst (λ v. Takes (Quads r) v nothing) (sym (view_4 g at (omega arith))) (quad_none_4 r a b d x y z f (drop (at + 4) g) w (sym c.allowed-2.ensures ∙ c.if-allowed-3.false))

@@ -1,4 +1,4 @@
-use Rattle.std.proofs.Common.{◌≡◌, ◌+◌, ◌<◌, ◌≤◌, [], ◌∷◌, ◌++◌, length, Some, Err, refl, subst, arith}
+use Rattle.std.proofs.Common.{◌≡◌, ◌<◌, ◌≤◌, [], ◌∷◌, ◌++◌, length, Some, Err, refl, subst, arith}
 use Rattle.report.specs.declared.ending.Last.TheVariants.{U}
 use Rattle.report.specs.declared.text.Text.{Text}
 use Rattle.report.specs.Meanings.{characters}

@@ -22,7 +22,7 @@ pub fn encode<'a, L: Layout, D: Dialect>(
     event: &'a KeyEvent<'a>,
     out: &mut [u8; 512],
 ) -> Result<usize, Fault>
-    ensures { MatchResult result (λ n. Sends (base layout.now) (bytes dialect.now) flags.bits (plain_event event.now) n out.old out.new) (λ f. Refuses (plain_event event.now) f out.old out.new) }
+    ensures { MatchResult result (λ n. Sends (L.base layout.now) (D.bytes dialect.now) flags.bits (plain_event event.now) n out.old out.new) (λ f. Refuses (plain_event event.now) f out.old out.new) }
 {
     let key = check(event)?;
     match tell(layout, flags, key) {

@@ -1,8 +1,8 @@
 -- An event with no fault has a key whose text can be told, and an allowed character.
-use Rattle.std.proofs.Common.{◌≡◌, ℕ, zero, suc, ◌+◌, ◌≤◌, Bool, true, false, cond, not, ◌&&◌, ◌||◌, leb, ◌⊎◌, List, [], ◌∷◌, length, is_some, Some, None, IsUtf8, Option, sym, refl, ap, ◌∙◌, inl, inr, ⊎_elim, arith}
+use Rattle.std.proofs.Common.{◌≡◌, ℕ, zero, suc, ◌+◌, ◌≤◌, Bool, true, false, cond, not, ◌||◌, leb, List, [], ◌∷◌, length, is_some, Some, None, IsUtf8, Option, refl, arith}
 use Rattle.std.specs.Char.{len_utf8}
 use Rattle.std.specs.Str.{chars}
-use Rattle.std.proofs.lemmas.Bool.{cases_Bool, or_parts, not-false, leb-true}
+use Rattle.std.proofs.lemmas.Bool.{or_parts, not-false, leb-true}
 use Rattle.texts.specs.Texts.{utf8, front, allowed as is_key, place_after}
 use Rattle.events.specs.Kinds.{PlainKind, character, composed, numpad, function, numbered, lettered, other}
 use Rattle.events.specs.Events.{PlainEvent, Fit}

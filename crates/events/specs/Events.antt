@@ -1,5 +1,5 @@
 -- An event with nothing borrowed: what the rules can see of it.
-use Rattle.std.specs.Prelude.{ℕ, ◌≤◌, Bool, true, false, cond, List, [], length, Some, None, IsUtf8, Option}
+use Rattle.std.specs.Prelude.{ℕ, ◌≤◌, Bool, cond, length, Some, None, IsUtf8, Option}
 use Rattle.std.specs.Option.{option_map}
 use Rattle.std.specs.Str.{chars}
 use Rattle.input_types.specs.Bits.{sum_of}
@@ -11,7 +11,7 @@ use Rattle.report.specs.declared.ending.Direction.{Direction}
 use Rattle.report.specs.declared.ending.Direction.TheVariants.{Press, Release}
 use Rattle.events.specs.Kinds.{PlainKind, kind_of, character, composed, numpad, function, numbered, lettered, other}
 use Rattle.input_types.specs.KeyMaps.{phys_of}
-use Rattle.input_types.specs.Codes.{by_key, by_phys, first, place}
+use Rattle.input_types.specs.Codes.{by_key, first, place}
 
 -- A key: its kind, its place on a US keyboard, and its number among the functional keys.
 pub record PlainKey : Type 0 where

@@ -1,5 +1,5 @@
 -- What is wrong with an event: the first fault of the event itself, or else of its raw event.
-use Rattle.std.specs.Prelude.{ℕ, Bool, true, false, cond, not, ◌&&◌, ◌||◌, List, length, is_some, Some, None, Option, nat_le}
+use Rattle.std.specs.Prelude.{ℕ, Bool, false, cond, not, ◌&&◌, ◌||◌, List, length, is_some, Some, None, Option, nat_le}
 use Rattle.std.specs.Str.{chars}
 use Rattle.input_types.specs.Bits.{named_modifiers, named_lights}
 use Rattle.texts.specs.Texts.{utf8, front, allowed, place_after}

@@ -1,6 +1,6 @@
 -- The two laws of the US layout. Below 1120 a test computes them at each code; from there on a code is its own base.
-use Rattle.std.specs.Prelude.{◌≡◌, ℕ, zero, suc, ◌<◌, ◌≤◌, Bool, true, false, ◌&&◌, ◌⊎◌, ◌==◌, nat_lt, refl}
-use Rattle.std.proofs.Common.{sym, ap, subst, inl, inr, ⊎_elim, arith, rules}
+use Rattle.std.specs.Prelude.{◌≡◌, ℕ, zero, suc, ◌<◌, ◌≤◌, Bool, true, ◌&&◌, ◌⊎◌, ◌==◌, nat_lt, refl}
+use Rattle.std.proofs.Common.{sym, ap, subst, ⊎_elim, arith, rules}
 use Rattle.std.proofs.lemmas.Bool.{lt-leb}
 use Rattle.std.proofs.lemmas.Bool.Decides.{nat_tests, Decides-below_and, Decides-and, Decides-eqb, Decides-ltb}
 use Rattle.texts.specs.Texts.{allowed}

@@ -1,5 +1,5 @@
 -- The US layout as a function from a character's code to the code of its base, and its two laws.
-use Rattle.std.specs.Prelude.{◌≡◌, ℕ, ◌+◌, ◌%◌, ◌<◌, ◌≤◌, Bool, true, false, cond, ◌&&◌, List, [], ◌∷◌, ◌==◌, nat_le}
+use Rattle.std.specs.Prelude.{◌≡◌, ℕ, ◌+◌, ◌%◌, Bool, true, cond, ◌&&◌, List, [], ◌∷◌, ◌==◌, nat_le}
 use Rattle.std.specs.Option.{unwrap_or}
 use Rattle.texts.specs.Texts.{allowed}
 use Rattle.tables.specs.Tables.{beside}

@@ -1,5 +1,5 @@
 -- A key with a number or a final of its own is known by its kind.
-use Rattle.std.proofs.Common.{◌≡◌, ℕ, Bool, cond, eqb, sym, refl, ap, ◌∙◌, subst}
+use Rattle.std.proofs.Common.{◌≡◌, cond, eqb, sym, refl, ap, ◌∙◌}
 use Rattle.input_types.specs.declared.key_code.KeyCode.{KeyCode}
 use Rattle.input_types.specs.declared.key_code.KeyCode.TheVariants as K
 use Rattle.report.specs.declared.ending.Last.{Last}
@@ -7,7 +7,7 @@ use Rattle.report.specs.declared.ending.Last.TheVariants as L
 use Rattle.events.specs.Kinds.{PlainKind, kind_of, character, composed, numpad, function, numbered, lettered, other}
 use Rattle.events.specs.Events.{plain_event}
 use Rattle.rules.specs.Laws.{Fixed, FixedTell, KeysApart}
-use Rattle.rules.proofs.Inverse.{key_of, Reads, fixed_reads, fixed_tells}
+use Rattle.rules.proofs.Inverse.{key_of, fixed_reads, fixed_tells}
 
 abbrev by_last : Last → KeyCode
 by_last L.U = K.VoidSymbol

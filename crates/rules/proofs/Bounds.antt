@@ -1,6 +1,5 @@
 -- The table of the keypad, by a test at each of its places.
-use Rattle.std.proofs.Common.{◌≡◌, ℕ, zero, suc, ◌<◌, Bool, true, false, ◌&&◌, eqb, ltb, get_or, Some, None, Option, refl, ap, ◌∙◌, arith}
-use Rattle.std.proofs.lemmas.Bool.{eqb-true}
+use Rattle.std.proofs.Common.{◌≡◌, ℕ, zero, suc, ◌<◌, Bool, true, false, ◌&&◌, eqb, ltb, get_or, Some, None, Option, refl, ap, arith}
 use Rattle.std.proofs.lemmas.Bool.Decides.{Decides-below_and, Decides-and, Decides-ltb, Decides-eqb}
 use Rattle.rules.specs.Pads.{no_pad, pads, pad_place, pad_number, Placed}
 

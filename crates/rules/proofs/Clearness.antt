@@ -1,14 +1,13 @@
 -- Where escape codes are disambiguated, each rule says only what is clear.
-use Rattle.std.proofs.Common.{◌≡◌, ℕ, ◌+◌, ◌≤◌, Bool, true, false, cond, not, ◌&&◌, ◌||◌, eqb, leb, ◌⊎◌, get_or, Some, None, Option, sym, refl, ap, ◌∙◌, subst, inl, inr, ⊎_elim, arith}
+use Rattle.std.proofs.Common.{◌≡◌, ℕ, ◌+◌, ◌≤◌, Bool, true, false, cond, not, ◌&&◌, ◌||◌, eqb, leb, get_or, Some, None, Option, ⊎_elim, arith}
 use Rattle.std.proofs.lemmas.Bool.{and_parts, and_cases, or_parts, not-true, both_ways, eqb-false, leb-true, cond_both}
-use Rattle.report.specs.declared.ending.Last.{Last}
-use Rattle.report.specs.declared.ending.Last.TheVariants.{U, Tilde, Begin}
-use Rattle.report.specs.Meanings.{Meaning, text, old, Clear}
+use Rattle.report.specs.declared.ending.Last.TheVariants.{Tilde, Begin}
+use Rattle.report.specs.Meanings.{text, old, Clear}
 use Rattle.input_types.specs.Bits.{holds}
 use Rattle.events.specs.Kinds.{PlainKind}
-use Rattle.events.specs.Events.{PlainEvent, PlainRaw, guess, code_raw}
+use Rattle.events.specs.Events.{PlainEvent, guess, code_raw}
 use Rattle.rules.specs.Strokes.{PlainStroke, bare, full, wordless}
-use Rattle.rules.specs.Rules.{Verdict, passes, silent, says, ◌▸◌, told, on_character, on_function, on_numbered, on_lettered, hushed, releases, erased, plainly, texts, pad_tells, pad_guess, keypad, editing, entering, enters, old_way, controlled, old_form, new_form, character_key, characters, arrows, function_numbers, function_tells, functions, code_tells, functional, stroke, early, late, verdict, tells}
+use Rattle.rules.specs.Rules.{passes, silent, says, ◌▸◌, on_character, on_numbered, hushed, releases, erased, plainly, texts, pad_tells, pad_guess, keypad, editing, entering, enters, old_way, controlled, old_form, new_form, character_key, characters, arrows, function_numbers, function_tells, functions, code_tells, functional, stroke, early, late, verdict}
 use Rattle.rules.specs.Laws.{ToldClear}
 use Rattle.rules.proofs.Verdicts.{Says, then, said, at_character, at_function, at_numbered, at_lettered}
 

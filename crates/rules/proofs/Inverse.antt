@@ -1,16 +1,15 @@
 -- The keys with a number or a final of their own can be read back from what they tell.
-use Rattle.std.proofs.Common.{◌≡◌, ℕ, zero, suc, ◌+◌, ◌-◌, ◌<◌, ◌≤◌, Bool, true, false, cond, not, ◌&&◌, ◌||◌, eqb, ltb, leb, ◌⊎◌, List, [], ◌∷◌, get_or, Some, None, Option, sym, refl, ap, ◌∙◌, subst, inl, inr, ⊎_elim, arith}
+use Rattle.std.proofs.Common.{◌≡◌, ℕ, zero, suc, ◌+◌, ◌-◌, ◌<◌, ◌≤◌, Bool, true, false, cond, not, ◌&&◌, eqb, ltb, leb, ◌⊎◌, get_or, Some, sym, refl, ap, ◌∙◌, subst, ⊎_elim, arith}
 use Rattle.std.proofs.lemmas.Bool.Decides.{nat_tests as tests, Decides-below_and, Decides-and, Decides-ltb, Decides-eqb}
-use Rattle.std.proofs.lemmas.Bool.{and_parts, and_from, le-leb, both_ways, cond_both, cond-true, cond-false, le-ltb, ne_eqb}
-use Rattle.report.specs.declared.ending.Direction.{Direction}
+use Rattle.std.proofs.lemmas.Bool.{and_parts, both_ways, cond_both, le-ltb, ne_eqb}
 use Rattle.report.specs.declared.ending.Last.{Last}
 use Rattle.report.specs.declared.ending.Last.TheVariants.{U, Tilde, Up, Down, Right, Left, Begin, End, Home}
 use Rattle.report.specs.Meanings.{Meaning, Fields, text, old, answer, sequence}
 use Rattle.input_types.specs.Bits.{holds}
 use Rattle.events.specs.Kinds.{PlainKind, character, composed, numpad, function, numbered, lettered, other}
-use Rattle.events.specs.Events.{PlainEvent, guess, sum, direction}
+use Rattle.events.specs.Events.{PlainEvent, sum, direction}
 use Rattle.rules.specs.Strokes.{PlainStroke, bare, wordless}
-use Rattle.rules.specs.Rules.{Verdict, passes, silent, says, ◌▸◌, told, erased, plainly, texts, function_numbers, function_tells, functional, stroke, early, late, verdict, tells}
+use Rattle.rules.specs.Rules.{passes, says, ◌▸◌, erased, plainly, texts, function_numbers, function_tells, functional, stroke, early, late, verdict, tells}
 use Rattle.rules.specs.Laws.{Told, Fixed, Arrow, OffKeypad}
 use Rattle.rules.proofs.Verdicts.{Says, then, said, of_told}
 use Rattle.rules.proofs.Numbers.{early_says}

@@ -1,15 +1,15 @@
 -- The number of a character key's sequence.
-use Rattle.std.proofs.Common.{◌≡◌, ℕ, Bool, true, false, cond, not, ◌&&◌, ◌||◌, eqb, Some, None, Option, sym, refl, ap, ◌∙◌, subst, arith}
+use Rattle.std.proofs.Common.{◌≡◌, ℕ, true, cond, eqb, sym, refl, subst}
 use Rattle.std.proofs.lemmas.Bool.{eqb-true, cond_both}
 use Rattle.report.specs.declared.ending.Last.TheVariants.{Tilde}
-use Rattle.report.specs.Meanings.{Meaning, text, old, answer, sequence}
+use Rattle.report.specs.Meanings.{Meaning, text, old}
 use Rattle.input_types.specs.Bits.{holds}
 use Rattle.texts.specs.Texts.{allowed as is_key}
 use Rattle.events.specs.Kinds.{PlainKind, character}
 use Rattle.events.specs.Events.{PlainEvent, guess}
 use Rattle.events.proofs.Fits.{allowed}
 use Rattle.rules.specs.Strokes.{PlainStroke, bare}
-use Rattle.rules.specs.Rules.{Verdict, passes, silent, says, ◌▸◌, told, hushed, releases, erased, plainly, texts, pad_tells, pad_guess, keypad, entering, enters, old_way, controlled, old_form, new_form, character_key, stroke, early, late, verdict, tells}
+use Rattle.rules.specs.Rules.{passes, silent, says, ◌▸◌, hushed, releases, erased, plainly, texts, pad_tells, keypad, entering, old_way, controlled, old_form, new_form, character_key, stroke, early, late, verdict}
 use Rattle.rules.specs.Laws.{Lawful, OffKeypad, Own, OwnNumber}
 use Rattle.rules.proofs.Verdicts.{Says, then, said}
 

@@ -1,5 +1,5 @@
 -- Verdicts, and facts that each rule's verdict keeps.
-use Rattle.std.proofs.Common.{◌≡◌, ℕ, Bool, true, false, cond, not, ◌&&◌, ◌||◌, Some, None, Option, sym, refl, ap, ◌∙◌, subst, arith}
+use Rattle.std.proofs.Common.{◌≡◌, ℕ, Some, None, Option, subst, arith}
 use Rattle.report.specs.declared.ending.Last.{Last}
 use Rattle.report.specs.Meanings.{Meaning}
 use Rattle.events.specs.Kinds.{PlainKind, character, composed, numpad, function, numbered, lettered, other}

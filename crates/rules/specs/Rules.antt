@@ -1,11 +1,11 @@
 -- What a key tells under the settings in force: the first rule that fits decides.
-use Rattle.std.specs.Prelude.{ℕ, ◌+◌, Bool, true, false, cond, not, ◌&&◌, ◌||◌, List, [], ◌∷◌, Some, None, Option, ◌==◌, nat_le, slice_index}
+use Rattle.std.specs.Prelude.{ℕ, ◌+◌, Bool, cond, not, ◌&&◌, ◌||◌, List, [], ◌∷◌, Some, None, Option, ◌==◌, nat_le, slice_index}
 use Rattle.std.specs.Option.{unwrap_or}
 use Rattle.std.specs.Char.{to_ascii_uppercase}
 use Rattle.input_types.specs.declared.phys_key_code.PhysKeyCode.{PhysKeyCode}
 use Rattle.report.specs.declared.ending.Last.{Last}
-use Rattle.report.specs.declared.ending.Last.TheVariants.{U, Tilde, Begin}
-use Rattle.report.specs.Meanings.{Meaning, text, old, answer, sequence}
+use Rattle.report.specs.declared.ending.Last.TheVariants.{Tilde, Begin}
+use Rattle.report.specs.Meanings.{Meaning, text, old}
 use Rattle.input_types.specs.Bits.{holds, disambiguate, event_types, alternate_keys, all_keys, shift, alt, ctrl, super, num_lock}
 use Rattle.events.specs.Kinds.{PlainKind, kind_of, character, composed, numpad, function, numbered, lettered, other}
 use Rattle.tables.specs.Tables.{beside}

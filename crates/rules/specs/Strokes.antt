@@ -1,5 +1,5 @@
 -- What every sequence of an event bears: the sum of its modifiers, its direction and its text.
-use Rattle.std.specs.Prelude.{ℕ, List, [], Some, None, Option}
+use Rattle.std.specs.Prelude.{ℕ, List, [], None, Option}
 use Rattle.report.specs.declared.ending.Direction.{Direction}
 use Rattle.report.specs.declared.ending.Last.{Last}
 use Rattle.report.specs.Meanings.{Meaning, characters}

@@ -109,7 +109,7 @@ fn new_form<L: Layout>(
     c: char,
     stroke: &Stroke,
 ) -> Report
-    ensures { means result ≡ new_form (base layout.now) flags.bits (event_of key.entry) c (plain_stroke stroke.now) }
+    ensures { means result ≡ new_form (L.base layout.now) flags.bits (event_of key.entry) c (plain_stroke stroke.now) }
 {
     let number = layout.base_of(c);
     let shifted = shifted_code(flags, key.reported_modifiers(), c, number);
@@ -124,7 +124,7 @@ pub(crate) fn character_key<L: Layout>(
     c: char,
     stroke: &Stroke,
 ) -> Report
-    ensures { means result ≡ character_key (base layout.now) flags.bits (event_of key.entry) c (plain_stroke stroke.now) }
+    ensures { means result ≡ character_key (L.base layout.now) flags.bits (event_of key.entry) c (plain_stroke stroke.now) }
 {
     if is_old(flags, key.is_down(), key.modifiers(), c) {
         old_form(key.modifiers(), c)

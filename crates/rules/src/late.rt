@@ -34,7 +34,7 @@ fn char_rules<L: Layout>(
     c: char,
     stroke: &Stroke,
 ) -> Option<Report>
-    ensures { option_map means result ≡ told (late (base layout.now) flags.bits (event_of key.entry) (character c) (plain_stroke stroke.now)) }
+    ensures { option_map means result ≡ told (late (L.base layout.now) flags.bits (event_of key.entry) (character c) (plain_stroke stroke.now)) }
 {
     if c == '\u{7f}' {
         return Some(bare_key(3, Last::Tilde, stroke));
@@ -110,7 +110,7 @@ pub(crate) fn late_rules<L: Layout>(
     kind: Kind,
     stroke: &Stroke,
 ) -> Option<Report>
-    ensures { option_map means result ≡ told (late (base layout.now) flags.bits (event_of key.entry) (plain_kind kind.entry) (plain_stroke stroke.now)) }
+    ensures { option_map means result ≡ told (late (L.base layout.now) flags.bits (event_of key.entry) (plain_kind kind.entry) (plain_stroke stroke.now)) }
 {
     match kind {
         Kind::Char(c) => char_rules(layout, flags, key, c, stroke),

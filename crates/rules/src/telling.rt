@@ -30,7 +30,7 @@ fn stroke_of(flags: KittyKeyboardFlags, key: Checked) -> Stroke
 
 // What the first rule that fits says, if it says anything.
 fn first_said<L: Layout>(layout: &L, flags: KittyKeyboardFlags, key: Checked) -> Option<Report>
-    ensures { option_map means result ≡ tells (base layout.now) flags.bits (event_of key.entry) }
+    ensures { option_map means result ≡ tells (L.base layout.now) flags.bits (event_of key.entry) }
 {
     if !key.is_down() && !flags.contains(KittyKeyboardFlags::REPORT_EVENT_TYPES) {
         return None;
@@ -50,9 +50,9 @@ fn first_said<L: Layout>(layout: &L, flags: KittyKeyboardFlags, key: Checked) ->
 // What an event that passed the check tells, or nothing. Where escape codes are disambiguated it is clear;
 // and a character key tells a number that the layout leaves alone and that stands for no other key.
 pub fn tell<L: Layout>(layout: &L, flags: KittyKeyboardFlags, key: Checked) -> Option<Report>
-    ensures value { option_map means result ≡ tells (base layout.now) flags.bits (event_of key.entry) }
+    ensures value { option_map means result ≡ tells (L.base layout.now) flags.bits (event_of key.entry) }
     ensures clear { holds flags.bits disambiguate ≡ true → Told Clear (option_map means result) }
-    ensures own { (c : ℕ) → CharacterKey (event_of key.entry) c → Told (Own (base layout.now)) (option_map means result) }
+    ensures own { (c : ℕ) → CharacterKey (event_of key.entry) c → Told (Own (L.base layout.now)) (option_map means result) }
 {
     first_said(layout, flags, key)
 }

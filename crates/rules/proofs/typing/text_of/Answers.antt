@@ -1,8 +1,7 @@
-use Rattle.std.proofs.Common.{◌≡◌, ℕ, ◌≤◌, List, length, sym, ap, ◌∙◌, subst}
+use Rattle.std.proofs.Common.{ℕ, ◌≤◌, List, length, sym, ap, ◌∙◌, subst}
 use Rattle.std.specs.Str.{chars}
 use Rattle.events.specs.Checks.{bytes_of}
 use Rattle.events.specs.Events.{Fit}
-use Rattle.events.specs.Kinds.{PlainKind, composed}
 use Rattle.events.specs.Passed.{event_of}
 use Rattle.events.proofs.Fits.{fit}
 use Rattle.rules.proofs.typing.text_of.Goals as goal

@@ -8,10 +8,10 @@ invariant_of-self c =
     let r = c.args.self.now in
     record { some = omega arith; most = omega arith; flags = flags_set r.settings r.held c.bits-bits.result r.flags (omega arith) (omega (arith, c.bits-bits.ensures, c.args.flags.named)) }
 
-pub invariant_of-self-else-self-lt8 : goal.invariant_of-self-else-self-lt8
-invariant_of-self-else-self-lt8 c =
+pub way_make-self : goal.way_make-self
+way_make-self c =
     let r = c.args.self.now in
-    record { some = omega arith; most = omega arith; flags = flags_shift r.settings c.bits-bits.result r.flags (omega (arith, c.bits-bits.ensures, c.args.flags.named)) }
+    (omega arith, (omega arith, (flags_shift r.settings c.bits-bits.result r.flags (omega (arith, c.bits-bits.ensures, c.args.flags.named)), tt)))
 
 pub returns-then-self-lt8 : goal.returns-then-self-lt8
 returns-then-self-lt8 c =

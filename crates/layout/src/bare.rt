@@ -1,5 +1,5 @@
 // The bare layout: each character is its own base.
-ghost use Rattle.std.proofs.Common.{rules};
+ghost use Rattle.std.specs.Prelude.{refl};
 
 use crate::Layout;
 
@@ -9,9 +9,9 @@ pub struct Bare;
 impl Layout for Bare {
     ghost base = { λ _ c. c };
 
-    ghost settled = { Prim.search rules };
+    ghost settled = { λ _ _. refl };
 
-    ghost kept = { Prim.search rules };
+    ghost kept = { λ _ _ h. h };
 
     fn base_of(&self, c: char) -> char {
         c

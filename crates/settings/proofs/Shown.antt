@@ -1,5 +1,5 @@
 -- The stacks after a write to the shown row.
-use Rattle.std.proofs.Common.{◌≡◌, ℕ, ◌<◌, List, [], ◌∷◌, map, length, get_or, set, sym, refl, ap, ◌∙◌}
+use Rattle.std.proofs.Common.{◌≡◌, ℕ, ◌<◌, List, [], map, length, get_or, set, sym, ap, ◌∙◌}
 use Rattle.std.proofs.lemmas.List.{map-set, get_or-map}
 use Rattle.settings.specs.declared.row.Row.{Row}
 use Rattle.settings.specs.Stack.{Stacks, with_row, top_of}

@@ -1,6 +1,6 @@
 -- A row's stack after a write to its settings.
-use Rattle.std.proofs.Common.{◌≡◌, ℕ, zero, suc, ◌+◌, ◌-◌, ◌<◌, ◌≤◌, true, false, cond, ltb, ◌≢◌, ◌⊎◌, List, [], ◌∷◌, ◌++◌, length, get_or, take, drop, set, sym, refl, ap, ◌∙◌, subst, inl, inr, arith, length-set, length-take, rules}
-use Rattle.std.proofs.lemmas.List.{take_all, take-take, take_more_set, get_or-take, get_or-set_same, get_or-set_other, same_lists, places}
+use Rattle.std.proofs.Common.{◌≡◌, ℕ, zero, suc, ◌+◌, ◌-◌, ◌<◌, ◌≤◌, true, false, ltb, List, [], ◌∷◌, ◌++◌, length, get_or, take, drop, set, sym, refl, ap, ◌∙◌, subst, inl, inr, arith, length-take, rules}
+use Rattle.std.proofs.lemmas.List.{take-take, take_more_set, get_or-take, get_or-set_same, get_or-set_other, same_lists, places}
 use Rattle.std.proofs.lemmas.Bool.{cases_eq}
 use Rattle.std.proofs.lemmas.Bool.Decides.{nat_tests}
 use Rattle.settings.specs.Stack.{top_of, pushed, popped, topped}

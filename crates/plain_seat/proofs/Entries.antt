@@ -1,13 +1,13 @@
 -- What holds of the reports of one accepted key or question.
-use Rattle.std.proofs.Common.{◌≡◌, ℕ, List, [], ◌∷◌, ◌++◌, Some, None, Option, sym, refl, ap, ◌∙◌, subst}
+use Rattle.std.proofs.Common.{◌≡◌, ℕ, [], Some, None, Option, sym, ap, ◌∙◌, subst}
 use Rattle.std.proofs.lemmas.List.{append-nil}
-use Rattle.report.specs.Meanings.{Meaning, Fields, Valid, Clear, sequence}
+use Rattle.report.specs.Meanings.{Meaning, Valid, Clear}
 use Rattle.events.specs.Events.{PlainEvent, sum, direction}
-use Rattle.rules.specs.Rules.{tells, stroke}
+use Rattle.rules.specs.Rules.{tells}
 use Rattle.rules.specs.Laws.{Told}
 use Rattle.rules.proofs.Clearness.{told_clear}
 use Rattle.rules.proofs.Numbers.{own_number}
-use Rattle.rules.proofs.Inverse.{key_of, Reads, fixed_reads, fixed_tells}
+use Rattle.rules.proofs.Inverse.{fixed_reads, fixed_tells}
 use Rattle.rules.proofs.Verdicts.{of_told}
 use Rattle.dialect.specs.Streams.{AllClear}
 use Rattle.plain_seat.specs.Plain.{Terms, Entry, Keyed, Asked, reports_of, optional}

@@ -1,7 +1,7 @@
 -- One call more of a history, and what the plain seat makes of it.
-use Rattle.std.proofs.Common.{◌≡◌, ℕ, ◌+◌, ◌-◌, ◌<◌, ◌≤◌, List, [], ◌∷◌, ◌++◌, map, length, sym, refl, ap, ◌∙◌, subst, append_assoc}
+use Rattle.std.proofs.Common.{◌≡◌, List, [], ◌∷◌, ◌++◌, sym, refl, ap, ◌∙◌, append_assoc}
 use Rattle.std.specs.List.{flat_map}
-use Rattle.plain_seat.specs.Plain.{Terms, Call, Reply, Entry, Plain, outcome, next, after, replies}
+use Rattle.plain_seat.specs.Plain.{Terms, Call, Plain, outcome, next, after, replies}
 use Rattle.plain_seat.specs.Reading.{All}
 
 pub joined_append : {X A : Type 0} (f : X → List A) (xs ys : List X) → flat_map f (xs ++ ys) ≡ flat_map f xs ++ flat_map f ys

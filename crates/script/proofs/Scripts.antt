@@ -1,11 +1,11 @@
 -- One call of a list, and one call more.
-use Rattle.std.proofs.Common.{◌≡◌, ℕ, zero, suc, ◌+◌, ◌-◌, ◌<◌, ◌≤◌, min, List, [], ◌∷◌, ◌++◌, map, length, get_or, take, drop, set, Ok, Err, Result, sym, refl, ap, ◌∙◌, subst, arith, length-append, length-take}
+use Rattle.std.proofs.Common.{◌≡◌, ℕ, ◌+◌, ◌-◌, ◌<◌, ◌≤◌, min, List, [], ◌∷◌, ◌++◌, map, length, get_or, take, drop, set, Ok, Result, sym, ap, ◌∙◌, subst, arith, length-append, length-take}
 use Rattle.std.specs.List.{flat_map}
 use lib.Seq.{take-append-add, drop-append-add}
 use Rattle.std.proofs.lemmas.List.{length-take-le, take-append-le, drop-append-le, take_more, take_more_set, drop-set-lt, drop-drop, map_push, flat_map_more}
 use Rattle.plain_seat.specs.Plain as plain
 use Rattle.plain_seat.specs.Plain.{Done}
-use Rattle.plain_seat.specs.Reading.{OneReading, Turn, View, Steps, GoesOn, turn}
+use Rattle.plain_seat.specs.Reading.{Turn, View, Steps, GoesOn, turn}
 use Rattle.seat.specs.declared.refusal.Refusal.{Refusal}
 use Rattle.seat.specs.Seats.{counted}
 use Rattle.script.specs.declared.Call.{Call}

@@ -38,8 +38,8 @@ pub fn make<'a, W: Wire, L: Layout, D: Dialect>(
     call: &'a Call<'a>,
     buffer: &mut [u8],
 ) -> Result<usize, Refusal>
-    ensures steps { Steps (view_of waiting capacity base bytes seat.old) (call_of (length buffer.old) call.now) (counted result) (moved_by call.now result buffer.new) (view_of waiting capacity base bytes seat.new) }
-    ensures reading { GoesOn (view_of waiting capacity base bytes seat.old) (call_of (length buffer.old) call.now) (counted result) (moved_by call.now result buffer.new) (view_of waiting capacity base bytes seat.new) }
+    ensures steps { Steps (view_of W.waiting W.capacity L.base D.bytes seat.old) (call_of (length buffer.old) call.now) (counted result) (moved_by call.now result buffer.new) (view_of W.waiting W.capacity L.base D.bytes seat.new) }
+    ensures reading { GoesOn (view_of W.waiting W.capacity L.base D.bytes seat.old) (call_of (length buffer.old) call.now) (counted result) (moved_by call.now result buffer.new) (view_of W.waiting W.capacity L.base D.bytes seat.new) }
     ensures rest { drop (handedBy call.now result) buffer.new ≡ drop (handedBy call.now result) buffer.old }
     ensures room { handedBy call.now result ≤ length buffer.old }
 {
@@ -104,8 +104,8 @@ pub fn replay<'a, W: Wire, L: Layout, D: Dialect>(
     buffer: &mut [u8],
 ) -> Finished<W, L, D>
     ensures made { result.made ≡ min (length calls.now) (length answers.old) }
-    ensures terms { (view_of waiting capacity base bytes result.seat).terms ≡ record { base = base layout; bytes = bytes dialect; capacity = capacity wire } }
-    ensures reading { waiting wire ≡ [] → Replayed (view_of waiting capacity base bytes result.seat) (length buffer.old) (take result.made calls.now) (take result.made answers.new) (take result.drained buffer.new) }
+    ensures terms { (view_of W.waiting W.capacity L.base D.bytes result.seat).terms ≡ record { base = L.base layout; bytes = D.bytes dialect; capacity = W.capacity wire } }
+    ensures reading { W.waiting wire ≡ [] → Replayed (view_of W.waiting W.capacity L.base D.bytes result.seat) (length buffer.old) (take result.made calls.now) (take result.made answers.new) (take result.drained buffer.new) }
     ensures answers_rest { drop result.made answers.new ≡ drop result.made answers.old }
     ensures buffer_rest { drop result.drained buffer.new ≡ drop result.drained buffer.old }
 {

@@ -1,10 +1,10 @@
 -- A report handed to the wire, whole or not at all.
-use Rattle.std.proofs.Common.{◌≡◌, ℕ, ◌-◌, ◌≤◌, Bool, true, false, cond, ◌&&◌, leb, List, ◌++◌, length, take, drop, Ok, Err, sym, refl, ap, ◌∙◌, subst, arith}
+use Rattle.std.proofs.Common.{◌≡◌, ℕ, ◌-◌, ◌≤◌, Bool, true, false, cond, ◌&&◌, leb, List, ◌++◌, length, take, Ok, Err, sym, ap, ◌∙◌, arith}
 use Rattle.std.proofs.lemmas.List.{take_at}
 use Rattle.std.proofs.lemmas.Bool.{cond-true, cond-false, le-leb}
 use Rattle.report.specs.Meanings.{Meaning}
 use Rattle.wire.specs.Moves.{fits, after_put}
-use Rattle.plain_seat.specs.Plain.{Terms, Reply, Done, Declined}
+use Rattle.plain_seat.specs.Plain.{Terms, Done}
 use Rattle.plain_seat.specs.Reading.{View}
 use Rattle.seat.specs.declared.refusal.Refusal.TheVariants.{NoRoom}
 use Rattle.seat.specs.Seats.{Sent, fitting}

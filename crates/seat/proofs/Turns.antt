@@ -1,5 +1,5 @@
 -- What each call does, as the plain seat's step.
-use Rattle.std.proofs.Common.{◌≡◌, ℕ, ◌+◌, ◌-◌, ◌≤◌, min, Bool, true, false, cond, not, leb, ◌⊎◌, List, [], ◌∷◌, ◌++◌, length, take, drop, is_some, Some, None, Err, Option, Result, sym, refl, ap, ◌∙◌, subst, inl, inr, arith, length-take}
+use Rattle.std.proofs.Common.{◌≡◌, ℕ, ◌-◌, ◌≤◌, true, leb, List, [], ◌∷◌, ◌++◌, length, take, drop, Some, None, Err, Option, Result, sym, refl, ap, ◌∙◌, subst, inl, inr, arith, length-take}
 use Rattle.std.specs.Option.{option_map}
 use Rattle.std.specs.List.{flat_map}
 use Rattle.std.proofs.lemmas.List.{append-nil, take_at, drop_at, take-append-drop}
@@ -17,7 +17,7 @@ use Rattle.rules.specs.Rules.{tells}
 use Rattle.rules.specs.Laws.{Told}
 use Rattle.settings.specs.Stack.{Stacks, in_force}
 use Rattle.wire.specs.Moves.{moves, filled}
-use Rattle.plain_seat.specs.Plain.{Terms, Call, Key, Query, Drain, Reply, Done, Declined, Entry, Keyed, Asked, Outcome, outcome, telling, keyed, declined, settled, reports_of, optional, said}
+use Rattle.plain_seat.specs.Plain.{Call, Key, Drain, Reply, Done, Declined, Entry, Keyed, Outcome, outcome, telling, keyed, declined, settled, reports_of, optional, said}
 use Rattle.plain_seat.specs.Reading.{All, View, Sound, Steps, Laws}
 use Rattle.seat.specs.declared.refusal.Refusal.{Refusal}
 use Rattle.seat.specs.Refusals.{refusal_number, refusal_place}

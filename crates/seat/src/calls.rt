@@ -43,7 +43,7 @@ fn blank() -> [u8; 512]
 impl<W: Wire, L: Layout, D: Dialect> Seat<W, L, D> {
     // Hands a report to the wire, whole or not at all.
     fn send(&mut self, report: &Report) -> Result<usize, Refusal>
-        ensures { Sent (view_of waiting capacity base bytes self.old) (means report.now) result (view_of waiting capacity base bytes self.new) }
+        ensures { Sent (view_of W.waiting W.capacity L.base D.bytes self.old) (means report.now) result (view_of W.waiting W.capacity L.base D.bytes self.new) }
     {
         let mut room = blank();
         let n = self.dialect.write(report, &mut room);
@@ -60,7 +60,7 @@ impl<W: Wire, L: Layout, D: Dialect> Seat<W, L, D> {
         ensures layout { result.layout ≡ layout }
         ensures dialect { result.dialect ≡ dialect }
         ensures stacks { stacks_of result.settings ≡ fresh }
-        ensures reading { waiting wire ≡ [] → OneReading (view_of waiting capacity base bytes result) [] }
+        ensures reading { W.waiting wire ≡ [] → OneReading (view_of W.waiting W.capacity L.base D.bytes result) [] }
     {
         Seat {
             wire,
@@ -72,8 +72,8 @@ impl<W: Wire, L: Layout, D: Dialect> Seat<W, L, D> {
 
     // Tells of a key under the setting in force, and answers how many bytes that put on the wire.
     pub fn key<'a>(&mut self, event: &'a KeyEvent<'a>) -> Result<usize, Refusal>
-        ensures steps { Steps (view_of waiting capacity base bytes self.old) (Key (plain_event event.now)) (counted result) [] (view_of waiting capacity base bytes self.new) }
-        ensures reading { GoesOn (view_of waiting capacity base bytes self.old) (Key (plain_event event.now)) (counted result) [] (view_of waiting capacity base bytes self.new) }
+        ensures steps { Steps (view_of W.waiting W.capacity L.base D.bytes self.old) (Key (plain_event event.now)) (counted result) [] (view_of W.waiting W.capacity L.base D.bytes self.new) }
+        ensures reading { GoesOn (view_of W.waiting W.capacity L.base D.bytes self.old) (Key (plain_event event.now)) (counted result) [] (view_of W.waiting W.capacity L.base D.bytes self.new) }
     {
         let key = check(event)?;
         let flags = self.settings.top();
@@ -85,8 +85,8 @@ impl<W: Wire, L: Layout, D: Dialect> Seat<W, L, D> {
 
     // One setting more on the shown screen; of eight the oldest goes.
     pub fn push(&mut self, flags: u32) -> Result<(), Refusal>
-        ensures steps { Steps (view_of waiting capacity base bytes self.old) (Push flags) (plain_reply result) [] (view_of waiting capacity base bytes self.new) }
-        ensures reading { GoesOn (view_of waiting capacity base bytes self.old) (Push flags) (plain_reply result) [] (view_of waiting capacity base bytes self.new) }
+        ensures steps { Steps (view_of W.waiting W.capacity L.base D.bytes self.old) (Push flags) (plain_reply result) [] (view_of W.waiting W.capacity L.base D.bytes self.new) }
+        ensures reading { GoesOn (view_of W.waiting W.capacity L.base D.bytes self.old) (Push flags) (plain_reply result) [] (view_of W.waiting W.capacity L.base D.bytes self.new) }
     {
         let pushed = flags_of(flags)?;
         self.settings.push(pushed);
@@ -95,8 +95,8 @@ impl<W: Wire, L: Layout, D: Dialect> Seat<W, L, D> {
 
     // n settings less on the shown screen; a single 0 where n reaches the number held.
     pub fn pop(&mut self, n: usize) -> Result<(), Refusal>
-        ensures steps { Steps (view_of waiting capacity base bytes self.old) (Pop n) (plain_reply result) [] (view_of waiting capacity base bytes self.new) }
-        ensures reading { GoesOn (view_of waiting capacity base bytes self.old) (Pop n) (plain_reply result) [] (view_of waiting capacity base bytes self.new) }
+        ensures steps { Steps (view_of W.waiting W.capacity L.base D.bytes self.old) (Pop n) (plain_reply result) [] (view_of W.waiting W.capacity L.base D.bytes self.new) }
+        ensures reading { GoesOn (view_of W.waiting W.capacity L.base D.bytes self.old) (Pop n) (plain_reply result) [] (view_of W.waiting W.capacity L.base D.bytes self.new) }
     {
         if n == 0 {
             return Err(Refusal::Value);
@@ -107,8 +107,8 @@ impl<W: Wire, L: Layout, D: Dialect> Seat<W, L, D> {
 
     // Changes the setting in force: mode 1 replaces it, 2 adds bits, 3 clears bits.
     pub fn set(&mut self, flags: u32, mode: u32) -> Result<(), Refusal>
-        ensures steps { Steps (view_of waiting capacity base bytes self.old) (Set flags mode) (plain_reply result) [] (view_of waiting capacity base bytes self.new) }
-        ensures reading { GoesOn (view_of waiting capacity base bytes self.old) (Set flags mode) (plain_reply result) [] (view_of waiting capacity base bytes self.new) }
+        ensures steps { Steps (view_of W.waiting W.capacity L.base D.bytes self.old) (Set flags mode) (plain_reply result) [] (view_of W.waiting W.capacity L.base D.bytes self.new) }
+        ensures reading { GoesOn (view_of W.waiting W.capacity L.base D.bytes self.old) (Set flags mode) (plain_reply result) [] (view_of W.waiting W.capacity L.base D.bytes self.new) }
     {
         let given = flags_of(flags)?;
         let top = self.settings.top();
@@ -123,8 +123,8 @@ impl<W: Wire, L: Layout, D: Dialect> Seat<W, L, D> {
 
     // Shows the main screen, 0, or the alternate one, 1.
     pub fn screen(&mut self, screen: usize) -> Result<(), Refusal>
-        ensures steps { Steps (view_of waiting capacity base bytes self.old) (Screened screen) (plain_reply result) [] (view_of waiting capacity base bytes self.new) }
-        ensures reading { GoesOn (view_of waiting capacity base bytes self.old) (Screened screen) (plain_reply result) [] (view_of waiting capacity base bytes self.new) }
+        ensures steps { Steps (view_of W.waiting W.capacity L.base D.bytes self.old) (Screened screen) (plain_reply result) [] (view_of W.waiting W.capacity L.base D.bytes self.new) }
+        ensures reading { GoesOn (view_of W.waiting W.capacity L.base D.bytes self.old) (Screened screen) (plain_reply result) [] (view_of W.waiting W.capacity L.base D.bytes self.new) }
     {
         match screen {
             0 => self.settings.show(Screen::Main),
@@ -136,8 +136,8 @@ impl<W: Wire, L: Layout, D: Dialect> Seat<W, L, D> {
 
     // Answers the setting in force, and how many bytes that put on the wire.
     pub fn query(&mut self) -> Result<usize, Refusal>
-        ensures steps { Steps (view_of waiting capacity base bytes self.old) Query (counted result) [] (view_of waiting capacity base bytes self.new) }
-        ensures reading { GoesOn (view_of waiting capacity base bytes self.old) Query (counted result) [] (view_of waiting capacity base bytes self.new) }
+        ensures steps { Steps (view_of W.waiting W.capacity L.base D.bytes self.old) Query (counted result) [] (view_of W.waiting W.capacity L.base D.bytes self.new) }
+        ensures reading { GoesOn (view_of W.waiting W.capacity L.base D.bytes self.old) Query (counted result) [] (view_of W.waiting W.capacity L.base D.bytes self.new) }
     {
         let flags = self.settings.top();
         self.send(&Report::Answer(flags))
@@ -145,8 +145,8 @@ impl<W: Wire, L: Layout, D: Dialect> Seat<W, L, D> {
 
     // Hands over the oldest bytes, and answers how many; the rest of the buffer stays.
     pub fn drain(&mut self, buffer: &mut [u8]) -> usize
-        ensures steps { Steps (view_of waiting capacity base bytes self.old) (Drain (length buffer.old)) (Done result) (take result buffer.new) (view_of waiting capacity base bytes self.new) }
-        ensures reading { GoesOn (view_of waiting capacity base bytes self.old) (Drain (length buffer.old)) (Done result) (take result buffer.new) (view_of waiting capacity base bytes self.new) }
+        ensures steps { Steps (view_of W.waiting W.capacity L.base D.bytes self.old) (Drain (length buffer.old)) (Done result) (take result buffer.new) (view_of W.waiting W.capacity L.base D.bytes self.new) }
+        ensures reading { GoesOn (view_of W.waiting W.capacity L.base D.bytes self.old) (Drain (length buffer.old)) (Done result) (take result buffer.new) (view_of W.waiting W.capacity L.base D.bytes self.new) }
         ensures rest { drop result buffer.new ≡ drop result buffer.old }
     {
         self.wire.take(buffer)

@@ -1,4 +1,4 @@
-use Rattle.std.proofs.Common.{◌≡◌, ◌-◌, ◌<◌, ◌≤◌, length, take, drop, arith, length-drop, take-append-drop, length-take}
+use Rattle.std.proofs.Common.{◌≡◌, ◌-◌, length, take, drop, arith, length-drop, take-append-drop, length-take}
 use Rattle.script.proofs.Scripts.{going_more}
 use Rattle.script.proofs.replay.Goals as goal
 

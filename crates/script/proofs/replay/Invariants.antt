@@ -1,4 +1,4 @@
-use Rattle.std.proofs.Common.{◌≡◌, [], length, take}
+use Rattle.std.proofs.Common.{◌≡◌, []}
 use Rattle.seat.specs.Seats.{view_of}
 use Rattle.script.proofs.Scripts.{Going}
 use Rattle.script.proofs.replay.Given as goal

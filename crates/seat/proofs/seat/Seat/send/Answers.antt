@@ -1,4 +1,4 @@
-use Rattle.std.proofs.Common.{length, drop, refl, arith}
+use Rattle.std.proofs.Common.{refl, arith}
 use Rattle.report.specs.Meanings.{means}
 use Rattle.report.proofs.Validity.{valid}
 use Rattle.seat.specs.Seats.{view_of}

@@ -1,5 +1,5 @@
 -- The parts of a frame, one after another.
-use Rattle.std.proofs.Common.{◌≡◌, ℕ, zero, suc, ◌+◌, ◌-◌, ◌<◌, ◌≤◌, true, eqb, leb, List, [], ◌∷◌, ◌++◌, length, replicate, Some, None, Option, sym, refl, ap, ◌∙◌, subst, inl, inr, arith, length-append, MatchOption}
+use Rattle.std.proofs.Common.{◌≡◌, ℕ, zero, suc, ◌-◌, ◌<◌, ◌≤◌, true, eqb, leb, List, [], ◌∷◌, ◌++◌, length, replicate, Some, None, Option, sym, refl, ap, ◌∙◌, subst, inl, inr, arith, length-append, MatchOption}
 use lib.ListN.{length-replicate}
 use lib.Utf8.{scalar, scalars}
 use Rattle.std.specs.List.{flat_map}
@@ -10,7 +10,7 @@ use Rattle.report.specs.declared.ending.Direction.TheVariants.{Press}
 use Rattle.report.specs.declared.ending.Last.{Last}
 use Rattle.report.specs.declared.ending.Last.TheVariants.{U, Tilde, Up, Down, Right, Left, Begin, End, Home}
 use Rattle.report.specs.Made.{parted}
-use Rattle.report.specs.Meanings.{Meaning, Fields, Sound, Coded, Suits, Bare, text, answer, sequence}
+use Rattle.report.specs.Meanings.{Meaning, Fields, Sound, Coded, Suits, Bare, text, answer}
 use Rattle.dialect.specs.Endings.{direction_number, last_byte}
 use Rattle.dialect.specs.EndingLaws.{direction_same, direction_digit, last_same, last_byte_lem}
 use Rattle.frames.specs.Framing.{le32, or_none}

@@ -1,4 +1,4 @@
-use Rattle.std.proofs.Common.{◌≡◌, ◌+◌, ◌<◌, ◌≤◌, [], ◌∷◌, ◌++◌, length, drop, Ok, sym, refl, ap, ◌∙◌, subst, arith}
+use Rattle.std.proofs.Common.{◌≡◌, ◌<◌, ◌≤◌, [], ◌∷◌, ◌++◌, length, drop, Ok, sym, refl, ap, ◌∙◌, subst, arith}
 use lib.ListN.{length-replicate}
 use Rattle.std.proofs.lemmas.List.{append-nil}
 use Rattle.report.specs.declared.report.Report.TheVariants.{Sequence}
@@ -32,7 +32,7 @@ loop-preserved c =
     let less : length (characters t) < c.args.count = omega (arith, v.0, length-characters t) in
     let few : c.loop.text.count < 32 = omega (arith, v.0, subst (λ n. n ≤ 32) (length-replicate k 0) c.requires.ready.few) in
     let p = pushed c.in-Some.c t.count c.push.new.self.count (characters t) (characters c.push.new.self) c.push.result few c.push.ensures in
-    let is : characters c.push.new.self ≡ characters t ++ q.value ∷ [] = p.1 ∙ ap (λ x. characters t ++ x ∷ []) c.in-Some.ensures.checked.1 in
+    let is : characters c.push.new.self ≡ characters t ++ q.value ∷ [] = p.1 ∙ ap (λ x. characters t ++ x ∷ []) c.in-Some.ensures.value.1 in
     (omega (arith, p.0, v.0), c.in_ok-q.ensures.1, λ r x. v.2 r (quad_goes Scalar (codes_chain k h l c.requires.ready (characters t) t.characters less) c.args.bytes.now c.loop.next q c.in_ok-q.ensures r (subst (λ ds. Tells (AtCodes k h l ds) c.args.bytes.now q.next r) is x)))
 
 pub returns-in-Some-sequence_from : goal.returns-in-Some-sequence_from

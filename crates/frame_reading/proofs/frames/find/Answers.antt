@@ -27,17 +27,17 @@ returns-in-Text c = on c.args.given.now c.in_ok-read_head.field-0 c.in_ok-read_h
 pub returns-in-Answer : goal.returns-in-Answer
 returns-in-Answer c = on c.args.given.now c.in_ok-read_head.field-0 c.in_ok-read_head.ensures Answer c.in-Answer.is c.read_flags.result c.read_flags.ensures
 
-pub returns-in_err-told : goal.returns-in_err-told
-returns-in_err-told c =
+pub returns-in_err-told-in-Sequence : goal.returns-in_err-told-in-Sequence
+returns-in_err-told-in-Sequence c =
     let g = c.args.given.now in
     let k = c.in-Sequence.count in
-    let r = c.from_residual-in_err-told.result in
-    on g c.in_ok-read_head.field-0 c.in_ok-read_head.ensures (Sequence k) c.in-Sequence.is r (embeds_break (AtNumber k) (InBody (Sequence k)) sequence [] g 4 4 refl (body_to k) (body_from k (drop 4 g)) (λ (t : Found). fields t.sequence) (λ t. t.next) (λ (x : Seen). means x.report) (λ x. x.length) r c.in_err-told.field-0.0 c.from_residual-in_err-told.ensures.1 c.in_err-told.ensures)
+    let r = c.from_residual-in_err-told-in-Sequence.result in
+    on g c.in_ok-read_head.field-0 c.in_ok-read_head.ensures (Sequence k) c.in-Sequence.is r (embeds_break (AtNumber k) (InBody (Sequence k)) sequence [] g 4 4 refl (body_to k) (body_from k (drop 4 g)) (λ (t : Found). fields t.sequence) (λ t. t.next) (λ (x : Seen). means x.report) (λ x. x.length) r c.in_err-told-in-Sequence.field-0.0 c.from_residual-in_err-told-in-Sequence.ensures.1 c.in_err-told-in-Sequence.ensures)
 
-pub returns-in_ok-told : goal.returns-in_ok-told
-returns-in_ok-told c =
+pub returns-in_ok-told-in-Sequence : goal.returns-in_ok-told-in-Sequence
+returns-in_ok-told-in-Sequence c =
     let g = c.args.given.now in
     let k = c.in-Sequence.count in
-    let t = c.in_ok-told.told in
+    let t = c.in_ok-told-in-Sequence.told in
     let s : Seen = record { report = Told t.sequence; length = t.next } in
-    on g c.in_ok-read_head.field-0 c.in_ok-read_head.ensures (Sequence k) c.in-Sequence.is (Ok s) (embeds_whole (AtNumber k) (InBody (Sequence k)) sequence [] g 4 4 refl (body_to k) (body_from k (drop 4 g)) (λ (t : Found). fields t.sequence) (λ t. t.next) (λ (x : Seen). means x.report) (λ x. x.length) t s refl refl c.in_ok-told.ensures)
+    on g c.in_ok-read_head.field-0 c.in_ok-read_head.ensures (Sequence k) c.in-Sequence.is (Ok s) (embeds_whole (AtNumber k) (InBody (Sequence k)) sequence [] g 4 4 refl (body_to k) (body_from k (drop 4 g)) (λ (t : Found). fields t.sequence) (λ t. t.next) (λ (x : Seen). means x.report) (λ x. x.length) t s refl refl c.in_ok-told-in-Sequence.ensures)

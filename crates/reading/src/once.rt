@@ -12,7 +12,7 @@ use report::report::Report;
 
 // Given bytes have one answer, so each answer comes exactly where its condition holds.
 pub fn one_answer<D: Dialect>(d: &D) -> u8
-    ensures { OneAnswer (bytes d.now) }
+    ensures { OneAnswer (D.bytes d.now) }
 {
     let _ = d;
     0

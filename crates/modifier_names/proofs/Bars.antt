@@ -1,7 +1,6 @@
 -- The parts of a text between its bars: at the first bar, and where there is none.
 use Rattle.std.proofs.Common.{◌≡◌, ℕ, suc, ◌+◌, ◌<◌, cond, eqb, List, [], ◌∷◌, ◌++◌, length, get_or, Ok, Result, sym, refl, ap, ◌∙◌, arith}
 use Rattle.std.proofs.lemmas.Bool.Decides.{nat_tests}
-use Rattle.input_types.specs.declared.modifiers.Modifiers.{Modifiers}
 use Rattle.names.specs.declared.fault.NameFault.{NameFault}
 use Rattle.modifier_names.specs.Words.{parts, onto, joined, listed_from, word_bits}
 

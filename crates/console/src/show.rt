@@ -97,7 +97,7 @@ fn read_back<R: Reader>(rt: &HostRuntime, reader: &R, bytes: &[u8]) -> io::Resul
         }
     };
     print!(rt; "  reads ")?;
-    match &report {
+    match report {
         Report::Text(c) | Report::Old(c) => {
             let n = c.code() as u32;
             print!(rt; "text {n}")?;
@@ -107,7 +107,7 @@ fn read_back<R: Reader>(rt: &HostRuntime, reader: &R, bytes: &[u8]) -> io::Resul
             print!(rt; "answer {bits}")?;
         }
         Report::Sequence(s) => {
-            sequence(rt, s)?;
+            sequence(rt, &s)?;
             let count = s.text.as_slice().len();
             if 0 < count && count <= 32 {
                 print!(rt; ", text")?;

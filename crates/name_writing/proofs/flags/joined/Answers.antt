@@ -1,4 +1,4 @@
-use Rattle.std.proofs.Common.{ℕ, ◌+◌, List, drop, sym, ap, ◌∙◌, arith}
+use Rattle.std.proofs.Common.{◌+◌, drop, sym, ap, ◌∙◌, arith}
 use Rattle.tables.specs.Entries.{entries}
 use Rattle.name_writing.specs.Labels.{labels}
 use Rattle.name_writing.specs.Lines.{text}

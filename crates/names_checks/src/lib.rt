@@ -13,7 +13,6 @@ mod tests {
     use names::composed::composed;
     use names::phys_names::read_phys_name;
     use normal::Normal;
-    use std::test::Fail;
 
     // The number and the place of a refusal, and zeros for a name that reads.
     fn refusal(name: &[u8]) -> (u8, usize) {
@@ -100,22 +99,16 @@ mod tests {
     }
 
     #[test]
-    fn no_room(rt: HostRuntime) -> Result<(), Fail> {
+    fn no_room(rt: HostRuntime) {
         let mut buffer = [b'.'; 17];
         match write_leds(KeyboardLedStatus { bits: 6 }, &mut buffer) {
-            Ok(_) => {
-                assert!(rt; false);
-                Ok(())
-            },
-            Err(fault) => {
-                assert!(rt; fault.number() == 13 && buffer == [b'.'; 17]);
-                Ok(())
-            },
+            Ok(_) => assert!(rt; false),
+            Err(fault) => assert!(rt; fault.number() == 13 && buffer == [b'.'; 17]),
         }
     }
 
     #[test]
-    fn composed_text(rt: HostRuntime) -> Result<(), Fail> {
+    fn composed_text(rt: HostRuntime) {
         assert!(rt; matches!(composed(b"a"), Ok(KeyCode::Char('a'))));
         assert!(rt;
             matches!(
@@ -124,14 +117,8 @@ mod tests {
             )
         );
         match composed(b"0123456789abcdef0123456789abcdef!") {
-            Ok(_) => {
-                assert!(rt; false);
-                Ok(())
-            },
-            Err(fault) => {
-                assert!(rt; (fault.number(), fault.place()) == (7, 32));
-                Ok(())
-            },
+            Ok(_) => assert!(rt; false),
+            Err(fault) => assert!(rt; (fault.number(), fault.place()) == (7, 32)),
         }
     }
 

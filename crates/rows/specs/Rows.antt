@@ -1,5 +1,5 @@
 -- Worked rows: what some events send on a US keyboard in the kitty dialect, and what some names read as.
-use Rattle.std.specs.Prelude.{◌≡◌, ℕ, Bool, true, false, List, [], ◌∷◌, Some, None, Ok, Err, codes, Option, Result}
+use Rattle.std.specs.Prelude.{◌≡◌, ℕ, true, false, List, [], ◌∷◌, Some, None, Ok, Err, codes, Option, Result}
 use Rattle.std.specs.Option.{option_map}
 use Rattle.numbers.specs.declared.NumberKind.TheVariants.{OutOfRange}
 use Rattle.input_types.specs.declared.key_code.KeyCode.{KeyCode}

@@ -1,7 +1,7 @@
 -- The names of the keys.
 use Rattle.std.specs.Prelude.{◌≡◌, ℕ, List, [], ◌∷◌, ◌++◌, codes}
 use Rattle.std.specs.Option.{unwrap_or}
-use Rattle.std.specs.List.{AllByRecursion as All}
+use Rattle.std.specs.List.{AllByRecursion}
 use Rattle.tables.specs.Tables.{name_for}
 use Rattle.input_types.specs.declared.key_code.KeyCode.{KeyCode}
 use Rattle.input_types.specs.declared.key_code.KeyCode.TheVariants as K
@@ -94,4 +94,4 @@ plain_name k = unwrap_or (name_for key_number keys (key_number k)) (unwrap_or (n
 
 -- each of these keys has its own name
 abbrev pub KeysNamed : Type 0
-KeysNamed = All (λ e. plain_name e.1 ≡ e.0) (plain_keys ++ unread_keys)
+KeysNamed = AllByRecursion (λ e. plain_name e.1 ≡ e.0) (plain_keys ++ unread_keys)

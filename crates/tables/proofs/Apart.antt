@@ -1,6 +1,6 @@
 -- In a table with no name twice, each pair's name finds what stands beside it.
 use Rattle.std.proofs.Common.{◌≡◌, ℕ, true, false, not, List, [], ◌∷◌, is_some, Some, refl, ap, ◌∙◌, ⊎_elim}
-use Rattle.std.specs.List.{AllByRecursion as All}
+use Rattle.std.specs.List.{AllByRecursion}
 use Rattle.std.specs.Str.{bytes_eq}
 use Rattle.std.proofs.lemmas.Slice.Eq.{bytes_eq-Decides}
 use Rattle.std.proofs.ByRecursion.{All-weaker}
@@ -16,7 +16,7 @@ other {A = A} es n s x h e = ⊎_elim same (λ f. f) (cases_Bool (bytes_eq n s))
         let q : is_some (bears es n) ≡ true = ap (λ (m : List ℕ). is_some (bears es m)) ((bytes_eq-Decides n s).0 t) ∙ ap is_some e in
         absurd (both_ways (is_some (bears es n)) h q)
 
-each : {A : Type 0} (es : List (List ℕ × A)) → apart es ≡ true → All (λ e. bears es e.0 ≡ Some e.1) es
+each : {A : Type 0} (es : List (List ℕ × A)) → apart es ≡ true → AllByRecursion (λ e. bears es e.0 ≡ Some e.1) es
 each [] h = tt
 each {A = A} (e ∷ es) h =
     let p = and_parts (not (is_some (bears es e.0))) (apart es) h in

@@ -1,6 +1,6 @@
 -- A table is a list of pairs; the first pair that begins with a number, or with a name, says what stands beside it.
 use Rattle.std.specs.Prelude.{◌≡◌, ℕ, Bool, true, cond, not, ◌&&◌, List, [], ◌∷◌, is_some, Some, None, Option, ◌==◌}
-use Rattle.std.specs.List.{AllByRecursion as All}
+use Rattle.std.specs.List.{AllByRecursion}
 use Rattle.std.specs.Str.{bytes_eq}
 
 abbrev pub beside : {A : Type 0} → List (ℕ × A) → ℕ → Option A
@@ -24,4 +24,4 @@ apart (e ∷ es) = not (is_some (bears es e.0)) && apart es
 -- no two pairs begin with one name, so each pair's name finds what stands beside it
 pub record Table {A : Type 0} (es : List (List ℕ × A)) : Type 0 where
   pub names : apart es ≡ true
-  pub each : All (λ e. bears es e.0 ≡ Some e.1) es
+  pub each : AllByRecursion (λ e. bears es e.0 ≡ Some e.1) es

@@ -3,6 +3,6 @@
 
 pub mod bodies;
 pub mod found;
-pub mod frames;
 pub mod heads;
 pub mod quads;
+pub mod whole_frames;

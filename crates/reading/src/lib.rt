@@ -3,7 +3,7 @@
 
 pub mod faults;
 pub mod filling;
-pub mod frames;
+pub mod frame_reader;
 pub mod kitty;
 pub mod once;
 pub mod reader;

@@ -12,7 +12,7 @@ use Rattle.frame_reading.specs.declared.found.Body.TheVariants.{Text, Answer, Se
 use Rattle.frame_reading.specs.Bodies.{AtNumber, InBody}
 use Rattle.frame_reading.specs.Heads.{SaysHead}
 use Rattle.frame_reading.proofs.HeadLaws.{frame_chain, body_to, body_from}
-use Rattle.frame_reading.proofs.frames.find.Goals as goal
+use Rattle.frame_reading.proofs.whole_frames.find.Goals as goal
 
 -- what a frame holds, after its head
 on : (given : List ℕ) (x : Body) → SaysHead given (Ok x) → (b : Body) → x ≡ b → (r : Result Seen Fault) → Sees (InBody b) given 4 r → Sees (Spoken frame_bytes) given 0 r

@@ -2,7 +2,7 @@
 use crate::faults::ReadFault;
 use crate::filling::fill;
 use crate::reader::Reader;
-use frame_reading::frames::find;
+use frame_reading::whole_frames::find;
 use frames::frames::Frames;
 use pieces::found::Seen;
 

@@ -4,7 +4,7 @@
     tools/compare.py ORACLE REPLAY [--small]
 
 ORACLE answers queries by running wezterm-input-types 0.1.0 unchanged, and generates vectors (`gen`); REPLAY is
-target/bin/replay, built by `rt check replay`. Each difference has to be explained by a correction of model.py or by
+crates/replay/out/replay, built by `rt run` in crates/replay. Each difference has to be explained by a correction of model.py or by
 a listed difference; classes are counted, and what is unexplained is printed and makes the exit status 1.
 """
 import collections

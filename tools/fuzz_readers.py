@@ -3,7 +3,7 @@
 
     tools/fuzz_readers.py REPLAY [COUNT] [SEED]
 
-REPLAY is target/bin/replay. The slow reader knows only how a report is written: it makes the reports whose shape fits
+REPLAY is crates/replay/out/replay. The slow reader knows only how a report is written: it makes the reports whose shape fits
 the first bytes, writes them, and compares. It shares nothing with the code that is compared.
 """
 import random

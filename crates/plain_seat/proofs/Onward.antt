@@ -7,7 +7,7 @@ use Rattle.dialect.specs.Streams.{AllClear}
 use Rattle.dialect.proofs.StreamLaws.{tells}
 use Rattle.settings.specs.Stack.{Stacks, fresh}
 use Rattle.plain_seat.specs.Plain.{Terms, Call, Reply, Entry, outcome, start, next, after, replies, reports_of, said}
-use Rattle.plain_seat.specs.Reading.{All, Turn, View, plainly, told, all_bytes, Sound, Marked, Numbered, Apart, OneReading, Steps, turn, GoesOn, Goes_on, Laws}
+use Rattle.plain_seat.specs.Reading.{All, Turn, View, plainly, told, all_bytes, Sound, Marked, Numbered, Apart, OneReading, Steps, turn, GoesOn, CallsGoOn, Laws}
 use Rattle.plain_seat.proofs.Runs.{joined_append, joined_joined, all_append, all_map, all_both, after_push, replies_push}
 use Rattle.plain_seat.proofs.Entries.{clear_of, numbered_of, apart_of}
 
@@ -81,7 +81,7 @@ module _ (v : View) (laws : Laws v.terms) (c : Call) (r : Reply) (bs waiting : L
 view : Terms → List ℕ → Stacks → View
 view m bs s = record { terms = m; waiting = bs; stacks = s }
 
-pub goes_on : Goes_on
+pub goes_on : CallsGoOn
 unfolding view
 goes_on v w laws c r bs s =
     let e : w ≡ view v.terms w.waiting w.stacks = ap (λ m. view m w.waiting w.stacks) s.terms in

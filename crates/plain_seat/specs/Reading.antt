@@ -106,5 +106,5 @@ pub record Laws (t : Terms) : Type 0 where
   pub apart : (m n : Meaning) (rest : List ℕ) → Valid m → Clear m → Valid n → Clear n → t.bytes m ++ rest ≡ t.bytes n → m ≡ n
 
 -- The step of the main theorem: what every call does goes on from every history.
-abbrev pub Goes_on : Type 0
-Goes_on = (v w : View) → Laws v.terms → (c : Call) (r : Reply) (bs : List ℕ) → Steps v c r bs w → GoesOn v c r bs w
+abbrev pub CallsGoOn : Type 0
+CallsGoOn = (v w : View) → Laws v.terms → (c : Call) (r : Reply) (bs : List ℕ) → Steps v c r bs w → GoesOn v c r bs w

@@ -1,7 +1,11 @@
 -- Bytes put one after another.
 use Rattle.std.proofs.Common.{◌≡◌, ℕ, ◌+◌, ◌≤◌, List, [], ◌∷◌, ◌++◌, length, take, drop, set, sym, refl, ap, ◌∙◌, subst, add-zero, arith, length-append, length-set}
-use Rattle.std.proofs.lemmas.List.{append_assoc, take_more_set, drop-set-lt, take-append-drop}
-use Rattle.dialect.specs.Puts.{puts, Wrote}
+use Rattle.std.proofs.lemmas.List.{append_assoc, take_more_set, drop-set-lt, take-append-drop, take_all}
+use Rattle.std.proofs.lemmas.Slice.{put_mid-paste}
+use borrow.Rule.Slice.PartMut.{put_mid}
+use lib.Seq.{paste}
+use Rattle.dialect.specs.declared.pen.Pen.{Pen}
+use Rattle.dialect.specs.Puts.{puts, Wrote, Put, Writes}
 
 pub length-puts : (out : List ℕ) (at : ℕ) (bs : List ℕ) → length (puts out at bs) ≡ length out
 length-puts out at [] = refl
@@ -22,6 +26,12 @@ puts_split out at (b ∷ bs) h =
     let i : at + 1 + length bs ≡ at + length (b ∷ bs) = omega arith in
     ih ∙ simp (t, d, i, append_assoc)
 
+-- the same of a part of the row that was overwritten whole
+pub put_mid_puts : (out : List ℕ) (at k : ℕ) (bs : List ℕ) → k ≡ length bs → at + length bs ≤ length out → put_mid at k out bs ≡ puts out at bs
+put_mid_puts out at k bs e h =
+    let whole : paste out at bs (length bs) ≡ take at out ++ (bs ++ drop (at + length bs) out) = rw (take_all (length bs) bs (omega arith)) (append_assoc (take at out) bs (drop (at + length bs) out)) in
+    put_mid-paste at k out bs bs (length bs) refl (sym e) refl ∙ whole ∙ sym (puts_split out at bs h)
+
 pub wrote_nothing : (out : List ℕ) (at : ℕ) → Wrote out at [] out at
 wrote_nothing out at = record { place = sym (add-zero at); row = refl }
 
@@ -39,3 +49,22 @@ wrote_front a b n bs h w =
 
 pub wrote_as : {a b : List ℕ} {i j : ℕ} {xs ys : List ℕ} → xs ≡ ys → Wrote a i xs b j → Wrote a i ys b j
 wrote_as {a} {b} {i} {j} e w = subst (λ zs. Wrote a i zs b j) e w
+
+pub writes_nothing : (p : Pen) → Writes p [] p
+writes_nothing p = record { wrote = wrote_nothing p.out.now p.at; same_row = refl }
+
+pub writes_more : {p q r : Pen} {xs ys : List ℕ} → Writes p xs q → Writes q ys r → Writes p (xs ++ ys) r
+writes_more v w = record { wrote = wrote_more v.wrote w.wrote; same_row = w.same_row ∙ v.same_row }
+
+pub writes_as : {p q : Pen} {xs ys : List ℕ} → xs ≡ ys → Writes p xs q → Writes p ys q
+writes_as {p} {q} e w = subst (λ zs. Writes p zs q) e w
+
+-- the same of bytes that fit into the row
+pub writes_put : {p q : Pen} {bs : List ℕ} → p.at + length bs ≤ 512 → Put p.out.now p.at bs q.out.now q.at → q.out.ghost_name ≡ p.out.ghost_name → Writes p bs q
+writes_put h put same = record { wrote = put.fits h; same_row = same }
+
+-- what stands in a row after a pen at its front put n bytes
+pub written : {p q : Pen} {a bs : List ℕ} {n : ℕ} → p.at ≡ 0 → p.out.now ≡ a → length bs ≤ length a → Writes p bs q → n ≡ q.at → (n ≡ length bs) × (q.out.now ≡ bs ++ drop n a)
+written {p} {q} {a} {bs} {n} e r h w i =
+    let v : Wrote a 0 bs q.out.now q.at = subst (λ i. Wrote a i bs q.out.now q.at) e (subst (λ o. Wrote o p.at bs q.out.now q.at) r w.wrote) in
+    wrote_front a q.out.now n bs h (subst (λ k. Wrote a 0 bs q.out.now k) (sym i) v)

@@ -3,7 +3,7 @@ use Rattle.std.specs.Prelude.{ℕ, ◌+◌, Bool, cond, ◌&&◌, List, [], ◌�
 use Rattle.std.proofs.Math.Utf8.{encode}
 use Rattle.report.specs.declared.ending.Direction.{Direction}
 use Rattle.report.specs.Meanings.{Meaning, Fields, text, old, answer, sequence}
-use Rattle.dialect.specs.Endings.{direction_number, is_press, is_begin, last_byte}
+use Rattle.report.specs.Endings.{direction_number, is_press, is_begin, last_byte}
 
 -- a code in decimal, or nothing where it is absent
 abbrev pub optional : Option ℕ → List ℕ

@@ -12,9 +12,9 @@ use Rattle.report.specs.declared.ending.Last.{Last}
 use Rattle.report.specs.declared.ending.Last.TheVariants.{Begin}
 use Rattle.report.specs.Made.{parted}
 use Rattle.report.specs.Meanings.{Meaning, Fields, Sound, Coded, Suits, Valid, Clear, text, old, answer, sequence}
-use Rattle.dialect.specs.Endings.{direction_number, is_press, is_begin, last_byte}
+use Rattle.report.specs.Endings.{direction_number, is_press, is_begin, last_byte}
 use Rattle.dialect.specs.KittyBytes.{optional, alternates, event, further, typed, parts, plain, kitty_bytes}
-use Rattle.dialect.specs.EndingLaws.{direction_same, last_same, last_high, last_stops}
+use Rattle.report.specs.EndingLaws.{direction_same, last_same, last_high, last_stops}
 use Rattle.dialect.specs.Numbers.{Stops, optional_same, decimal_same, decimal_not, code_short}
 
 -- two lists that begin with different bytes

@@ -1,103 +1,117 @@
 // The kitty keyboard protocol, as a dialect.
 ghost use Rattle.std.specs.Prelude.{◌≡◌, ◌+◌, ◌≤◌, true};
 ghost use Rattle.report.specs.Sound.{coded};
-ghost use Rattle.report.specs.Meanings.{characters, fields};
+ghost use Rattle.report.specs.Meanings.{characters, fields, means};
 ghost use Rattle.dialect.specs.KittyBytes.{optional, alternates, event, typed, parts, plain, kitty_bytes};
-ghost use Rattle.dialect.specs.Puts.{Wrote};
+ghost use Rattle.dialect.specs.Puts.{Writes};
 ghost use Rattle.dialect.specs.KittyLaws.{kitty_sized, kitty_apart};
 
 use crate::dialect::Dialect;
-use crate::endings::{direction_number, is_begin, is_press, last_byte};
-use crate::pen::{put_byte, put_bytes, put_char, put_code};
-use report::ending::Direction;
+use crate::pen::Pen;
+use report::ending::{Direction, Last};
 use report::report::Report;
 use report::sequence::Sequence;
 use report::text::Text;
 
-#[derive(Clone, Copy)]
+#[derive(Clone, Copy, Debug, PartialEq, Eq)]
 pub struct Kitty;
 
 // Whether the sequence has the short form, ESC [ E.
 pub fn is_plain(s: &Sequence) -> bool
     ensures { result ≡ plain (fields s.now) }
 {
-    s.number == 1 && is_begin(s.last) && is_press(s.direction) && s.sum == 0
+    s.number == 1 && s.last == Last::Begin && s.direction == Direction::Press && s.sum == 0
 }
 
-fn put_optional(out: &mut [u8; 512], at: usize, code: Option<u32>) -> usize
-    requires { (coded code ≡ true) × (at + 7 ≤ 512) }
-    ensures wrote { Wrote out.old at (optional code) out.new result }
-    ensures near { result ≤ at + 7 }
+fn put_optional(pen: &mut Pen, code: Option<u32>)
+    requires { (coded code ≡ true) × (pen.old.at + 7 ≤ 512) }
+    ensures wrote { Writes pen.old (optional code) pen.new }
+    ensures near { pen.new.at ≤ pen.old.at + 7 }
 {
-    match code {
-        Some(n) => put_code(out, at, n),
-        None => at,
+    if let Some(n) = code {
+        pen.code(n);
     }
 }
 
-fn put_alternates(out: &mut [u8; 512], at: usize, shifted: Option<u32>, base: Option<u32>) -> usize
-    requires { (coded shifted ≡ true) × ((coded base ≡ true) × (at + 16 ≤ 512)) }
-    ensures wrote { Wrote out.old at (alternates shifted base) out.new result }
-    ensures near { result ≤ at + 16 }
+fn put_alternates(pen: &mut Pen, shifted: Option<u32>, base: Option<u32>)
+    requires { (coded shifted ≡ true) × ((coded base ≡ true) × (pen.old.at + 16 ≤ 512)) }
+    ensures wrote { Writes pen.old (alternates shifted base) pen.new }
+    ensures near { pen.new.at ≤ pen.old.at + 16 }
 {
-    match base {
-        None => match shifted {
-            None => at,
-            Some(s) => {
-                let at = put_byte(out, at, b':');
-                put_code(out, at, s)
-            }
-        },
-        Some(b) => {
-            let at = put_byte(out, at, b':');
-            let at = put_optional(out, at, shifted);
-            let at = put_byte(out, at, b':');
-            put_code(out, at, b)
-        }
+    if shifted.is_none() && base.is_none() {
+        return;
+    }
+    pen.byte(b':');
+    put_optional(pen, shifted);
+    if let Some(b) = base {
+        pen.byte(b':');
+        pen.code(b);
     }
 }
 
 // A press is not marked.
-fn put_event(out: &mut [u8; 512], at: usize, direction: Direction) -> usize
-    requires { at + 2 ≤ 512 }
-    ensures wrote { Wrote out.old at (event direction) out.new result }
-    ensures near { result ≤ at + 2 }
+fn put_event(pen: &mut Pen, direction: Direction)
+    requires { pen.old.at + 2 ≤ 512 }
+    ensures wrote { Writes pen.old (event direction) pen.new }
+    ensures near { pen.new.at ≤ pen.old.at + 2 }
 {
-    if is_press(direction) {
-        at
-    } else {
-        let at = put_byte(out, at, b':');
-        put_byte(out, at, b'0' + direction_number(direction))
+    if direction != Direction::Press {
+        pen.byte(b':');
+        pen.byte(b'0' + u8::from(direction));
     }
 }
 
-fn put_typed(out: &mut [u8; 512], at: usize, text: &Text) -> usize
-    requires { at ≤ 200 }
-    ensures wrote { Wrote out.old at (typed (characters text.now)) out.new result }
-    ensures near { result ≤ at + 256 }
+fn put_typed(pen: &mut Pen, text: &Text)
+    requires { pen.old.at ≤ 200 }
+    ensures wrote { Writes pen.old (typed (characters text.now)) pen.new }
+    ensures near { pen.new.at ≤ pen.old.at + 256 }
 {
-    let mut next = at;
     let mut mark = b';';
     for c in text.as_slice() {
-        next = put_byte(out, next, mark);
-        next = put_code(out, next, *c as u32);
+        pen.byte(mark);
+        pen.code(*c as u32);
         mark = b':';
     }
-    next
 }
 
 // What follows ESC [ in the long form.
-fn put_parts(out: &mut [u8; 512], at: usize, s: &Sequence) -> usize
-    requires { at ≤ 2 }
-    ensures { Wrote out.old at (parts (fields s.now)) out.new result }
+fn put_parts(pen: &mut Pen, s: &Sequence)
+    requires { pen.old.at ≤ 2 }
+    ensures { Writes pen.old (parts (fields s.now)) pen.new }
 {
-    let at = put_code(out, at, s.number);
-    let at = put_alternates(out, at, s.shifted, s.base);
-    let at = put_byte(out, at, b';');
-    let at = put_code(out, at, s.sum as u32 + 1);
-    let at = put_event(out, at, s.direction);
-    let at = put_typed(out, at, &s.text);
-    put_byte(out, at, last_byte(s.last))
+    pen.code(s.number);
+    put_alternates(pen, s.shifted, s.base);
+    pen.byte(b';');
+    pen.code(s.sum as u32 + 1);
+    put_event(pen, s.direction);
+    put_typed(pen, &s.text);
+    pen.byte(s.last.into());
+}
+
+fn put_report(pen: &mut Pen, report: &Report)
+    requires { pen.old.at ≡ 0 }
+    ensures { Writes pen.old (kitty_bytes (means report.now)) pen.new }
+{
+    match report {
+        Report::Text(c) => pen.char(c.code()),
+        Report::Old(c) => {
+            pen.byte(0x1b);
+            pen.char(c.code());
+        }
+        Report::Answer(flags) => {
+            pen.bytes(b"\x1b[?");
+            pen.code(flags.bits() as u32);
+            pen.byte(b'u');
+        }
+        Report::Sequence(s) => {
+            if is_plain(s) {
+                pen.bytes(b"\x1b[E");
+            } else {
+                pen.bytes(b"\x1b[");
+                put_parts(pen, s);
+            }
+        }
+    }
 }
 
 impl Dialect for Kitty {
@@ -108,25 +122,8 @@ impl Dialect for Kitty {
     ghost apart = { λ d. kitty_apart };
 
     fn write(&self, report: &Report, out: &mut [u8; 512]) -> usize {
-        match report {
-            Report::Text(c) => put_char(out, 0, c.code()),
-            Report::Old(c) => {
-                let at = put_byte(out, 0, 0x1b);
-                put_char(out, at, c.code())
-            }
-            Report::Answer(flags) => {
-                let at = put_bytes(out, 0, b"\x1b[?");
-                let at = put_code(out, at, flags.bits() as u32);
-                put_byte(out, at, b'u')
-            }
-            Report::Sequence(s) => {
-                if is_plain(s) {
-                    put_bytes(out, 0, b"\x1b[E")
-                } else {
-                    let at = put_bytes(out, 0, b"\x1b[");
-                    put_parts(out, at, s)
-                }
-            }
-        }
+        let mut pen = Pen::new(out);
+        put_report(&mut pen, report);
+        pen.count()
     }
 }

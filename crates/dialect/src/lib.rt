@@ -2,7 +2,6 @@
 #![tactic(auto)]
 
 pub mod dialect;
-pub mod endings;
 pub mod kitty;
 pub mod pen;
 pub mod streams;

@@ -1,59 +1,69 @@
-// Bytes put into a row of 512, one after another: each function answers the place after what it put.
-ghost use Rattle.std.specs.Prelude.{◌+◌, ◌<◌, ◌≤◌, [], ◌∷◌, length, decimal};
+// Bytes put into a row of 512, one after another.
+ghost use Rattle.std.specs.Prelude.{◌≡◌, ◌+◌, ◌<◌, ◌≤◌, [], ◌∷◌, decimal};
 ghost use Rattle.std.proofs.Math.Utf8.{encode};
-ghost use Rattle.dialect.specs.Puts.{Wrote, Put};
+ghost use Rattle.dialect.specs.Puts.{Put, Wrote, Writes};
 
-pub(crate) fn put_byte(out: &mut [u8; 512], at: usize, b: u8) -> usize
-    requires { at < 512 }
-    ensures { Wrote out.old at (b ∷ []) out.new result }
-{
-    out[at] = b;
-    at + 1
+use itoa::Buffer;
+
+// A row, and the place in it where the next byte goes.
+#[derive(Drop)]
+pub struct Pen<'a> {
+    out: &'a mut [u8; 512],
+    at: usize,
 }
 
-// Where the bytes would pass the end, none is put, and the place stays.
-pub fn put_bytes(out: &mut [u8; 512], at: usize, bytes: &[u8]) -> usize
-    ensures { Put out.old at bytes.now out.new result }
-{
-    if 512 < at || 512 - at < bytes.len() {
-        return at;
+impl<'a> Pen<'a> {
+    // At the front of the row.
+    pub fn new(out: &'a mut [u8; 512]) -> Pen<'a>
+        ensures row { result.out ≡ out.entry }
+        ensures front { result.at ≡ 0 }
+    {
+        Pen { out, at: 0 }
     }
-    let mut next = at;
-    for b in bytes {
-        next = put_byte(out, next, *b);
+
+    // How many bytes stand before the place.
+    pub fn count(&self) -> usize
+        ensures { result ≡ self.now.at }
+    {
+        self.at
     }
-    next
-}
 
-// The digits of `n`, the highest first.
-fn put_decimal(out: &mut [u8; 512], at: usize, n: u32) -> usize
-    requires { at + length (decimal n) ≤ 512 }
-    ensures { Wrote out.old at (decimal n) out.new result }
-{
-    let digit = b'0' + (n % 10) as u8;
-    if n < 10 {
-        put_byte(out, at, digit)
-    } else {
-        let at = put_decimal(out, at, n / 10);
-        put_byte(out, at, digit)
+    pub(crate) fn byte(&mut self, b: u8)
+        requires { self.old.at < 512 }
+        ensures { Writes self.old (b ∷ []) self.new }
+    {
+        self.out[self.at] = b;
+        self.at += 1;
     }
-}
 
-// A code point's number, of at most seven digits.
-pub(crate) fn put_code(out: &mut [u8; 512], at: usize, n: u32) -> usize
-    requires { (n ≤ 1114111) × (at + 7 ≤ 512) }
-    ensures wrote { Wrote out.old at (decimal n) out.new result }
-    ensures near { result ≤ at + 7 }
-{
-    put_decimal(out, at, n)
-}
+    // Where the bytes would pass the end, none is put, and the place stays.
+    pub fn bytes(&mut self, bytes: &[u8])
+        ensures put { Put self.old.out.now self.old.at bytes.now self.new.out.now self.new.at }
+        ensures same_row { self.new.out.ghost_name ≡ self.old.out.ghost_name }
+    {
+        if self.at > 512 || 512 - self.at < bytes.len() {
+            return;
+        }
+        let end = self.at + bytes.len();
+        let row = &mut *self.out;
+        row[self.at..end].copy_from_slice(bytes);
+        self.at = end;
+    }
 
-// A character in UTF-8.
-pub(crate) fn put_char(out: &mut [u8; 512], at: usize, c: char) -> usize
-    requires { at + 4 ≤ 512 }
-    ensures { Wrote out.old at (encode c) out.new result }
-{
-    let mut row = [0u8; 4];
-    let text = c.encode_utf8(&mut row);
-    put_bytes(out, at, text.as_bytes())
+    // A code point's number in decimal, of at most seven digits.
+    pub(crate) fn code(&mut self, n: u32)
+        requires { (n ≤ 1114111) × (self.old.at + 7 ≤ 512) }
+        ensures wrote { Writes self.old (decimal n) self.new }
+        ensures near { self.new.at ≤ self.old.at + 7 }
+    {
+        self.bytes(Buffer::new().format(n).as_bytes());
+    }
+
+    // A character in UTF-8.
+    pub(crate) fn char(&mut self, c: char)
+        requires { self.old.at + 4 ≤ 512 }
+        ensures { Writes self.old (encode c) self.new }
+    {
+        self.bytes(c.encode_utf8(&mut [0; 4]).as_bytes());
+    }
 }

@@ -11,8 +11,8 @@ use Rattle.report.specs.declared.ending.Last.{Last}
 use Rattle.report.specs.declared.ending.Last.TheVariants.{U, Tilde, Up, Down, Right, Left, Begin, End, Home}
 use Rattle.report.specs.Made.{parted}
 use Rattle.report.specs.Meanings.{Meaning, Fields, Sound, Coded, Suits, Bare, text, answer}
-use Rattle.dialect.specs.Endings.{direction_number, last_byte}
-use Rattle.dialect.specs.EndingLaws.{direction_same, direction_digit, last_same, last_byte_lem}
+use Rattle.report.specs.Endings.{direction_number, last_byte}
+use Rattle.report.specs.EndingLaws.{direction_same, direction_digit, last_same, last_byte_lem}
 use Rattle.frames.specs.Framing.{le32, or_none}
 use Rattle.frames.specs.FrameLaws.{or_none-same}
 use Rattle.pieces.specs.Octets.{Octets}

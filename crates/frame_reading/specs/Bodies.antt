@@ -3,7 +3,7 @@ use Rattle.std.specs.Prelude.{◌≡◌, ℕ, ◌≤◌, Bool, true, false, List
 use Rattle.std.specs.List.{flat_map}
 use Rattle.report.specs.declared.ending.Last.{Last}
 use Rattle.report.specs.Meanings.{Meaning, Fields, Sound, text, answer, sequence}
-use Rattle.dialect.specs.Endings.{direction_number, last_byte}
+use Rattle.report.specs.Endings.{direction_number, last_byte}
 use Rattle.frames.specs.Framing.{le32, or_none, field_bytes}
 use Rattle.sequences.specs.declared.told.Head.{Head}
 use Rattle.sequences.specs.Parts.{filled}

@@ -7,8 +7,8 @@ use Rattle.std.proofs.lemmas.List.{append-nil}
 use Rattle.std.proofs.lemmas.Bool.{and_parts}
 use Rattle.report.specs.Made.{parted}
 use Rattle.report.specs.Meanings.{Meaning, Fields, Sound, Coded, Valid, Clear, text, old, answer, sequence}
-use Rattle.dialect.specs.Endings.{direction_number, last_byte}
-use Rattle.dialect.specs.EndingLaws.{direction_same, last_same}
+use Rattle.report.specs.Endings.{direction_number, last_byte}
+use Rattle.report.specs.EndingLaws.{direction_same, last_same}
 use Rattle.frames.specs.Framing.{le32, or_none, field_bytes, framed, frame_bytes}
 
 -- four bytes tell a number of 32 bits

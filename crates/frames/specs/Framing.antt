@@ -2,13 +2,22 @@
 use Rattle.std.specs.Prelude.{ℕ, ◌/◌, ◌%◌, List, [], ◌∷◌, ◌++◌, length, Some, None, Option}
 use Rattle.std.specs.List.{flat_map}
 use Rattle.report.specs.Meanings.{Meaning, Fields, text, old, answer, sequence}
-use Rattle.dialect.specs.Endings.{direction_number, last_byte}
+use Rattle.frames.specs.declared.frames.FrameKind.{FrameKind}
+use Rattle.frames.specs.declared.frames.FrameKind.TheVariants.{Text, Sequence, Answer, Old}
+use Rattle.report.specs.Endings.{direction_number, last_byte}
 
 abbrev pub le16 : ℕ → List ℕ
 le16 n = n % 256 ∷ n / 256 % 256 ∷ []
 
 abbrev pub le32 : ℕ → List ℕ
 le32 n = n % 256 ∷ n / 256 % 256 ∷ n / 65536 % 256 ∷ n / 16777216 % 256 ∷ []
+
+-- the number of a kind
+abbrev pub kind_number : FrameKind → ℕ
+kind_number Text = 1
+kind_number Sequence = 2
+kind_number Answer = 3
+kind_number Old = 4
 
 -- a code, or FFFFFFFF where it is absent
 abbrev pub or_none : Option ℕ → ℕ
@@ -21,10 +30,10 @@ field_bytes f = le32 f.number ++ (le32 (or_none f.shifted) ++ (le32 (or_none f.b
 
 -- the kind, and what the frame of that kind holds
 abbrev pub framed : Meaning → List ℕ
-framed (text c) = le16 1 ++ le32 c
-framed (old c) = le16 4 ++ le32 c
-framed (answer n) = le16 3 ++ (n ∷ [])
-framed (sequence f) = le16 2 ++ field_bytes f
+framed (text c) = le16 (kind_number Text) ++ le32 c
+framed (old c) = le16 (kind_number Old) ++ le32 c
+framed (answer n) = le16 (kind_number Answer) ++ (n ∷ [])
+framed (sequence f) = le16 (kind_number Sequence) ++ field_bytes f
 
 abbrev pub frame_bytes : Meaning → List ℕ
 frame_bytes m = le16 (length (framed m)) ++ framed m

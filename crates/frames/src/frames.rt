@@ -1,20 +1,28 @@
 // Frames, as a dialect.
 ghost use Rattle.std.specs.Prelude.{◌≡◌, ◌+◌, ◌*◌, ◌≤◌, ◌++◌};
 ghost use Rattle.std.specs.List.{flat_map};
-ghost use Rattle.report.specs.Meanings.{characters, fields};
-ghost use Rattle.dialect.specs.Puts.{Wrote};
-ghost use Rattle.frames.specs.Framing.{le16, le32, or_none, field_bytes, frame_bytes};
+ghost use Rattle.report.specs.Meanings.{characters, fields, means};
+ghost use Rattle.dialect.specs.Puts.{Writes};
+ghost use Rattle.frames.specs.Framing.{le16, le32, or_none, field_bytes, frame_bytes, kind_number};
 ghost use Rattle.frames.specs.FrameLaws.{frame_sized, frame_apart};
 
 use dialect::dialect::Dialect;
-use dialect::endings::{direction_number, last_byte};
-use dialect::pen::put_bytes;
+use dialect::pen::Pen;
 use report::report::Report;
 use report::sequence::Sequence;
 use report::text::Text;
 
-#[derive(Clone, Copy)]
+#[derive(Clone, Copy, Debug, PartialEq, Eq)]
 pub struct Frames;
+
+// What a frame holds, as its second word numbers it.
+#[derive(Clone, Copy, Debug, PartialEq, Eq)]
+pub enum FrameKind {
+    Text = 1,
+    Sequence = 2,
+    Answer = 3,
+    Old = 4,
+}
 
 fn or_none(code: Option<u32>) -> u32
     ensures { result ≡ or_none code }
@@ -22,52 +30,71 @@ fn or_none(code: Option<u32>) -> u32
     code.unwrap_or(0xffff_ffff)
 }
 
-fn put_le32(out: &mut [u8; 512], at: usize, n: u32) -> usize
-    requires { at + 4 ≤ 512 }
-    ensures { Wrote out.old at (le32 n) out.new result }
+fn put_le32(pen: &mut Pen, n: u32)
+    requires { pen.old.at + 4 ≤ 512 }
+    ensures { Writes pen.old (le32 n) pen.new }
 {
-    put_bytes(out, at, &n.to_le_bytes())
+    pen.bytes(&n.to_le_bytes());
 }
 
 // The length and the kind.
-fn put_head(out: &mut [u8; 512], length: u16, kind: u16) -> usize
-    ensures { Wrote out.old 0 (le16 length ++ le16 kind) out.new result }
+fn put_head(pen: &mut Pen, length: u16, kind: FrameKind)
+    requires { pen.old.at ≡ 0 }
+    ensures { Writes pen.old (le16 length ++ le16 (kind_number kind)) pen.new }
 {
-    let at = put_bytes(out, 0, &length.to_le_bytes());
-    put_bytes(out, at, &kind.to_le_bytes())
+    pen.bytes(&length.to_le_bytes());
+    pen.bytes(&(kind as u16).to_le_bytes());
 }
 
-fn put_codes(out: &mut [u8; 512], at: usize, text: &Text) -> usize
-    requires { at + 4 * text.now.count ≤ 512 }
-    ensures { Wrote out.old at (flat_map le32 (characters text.now)) out.new result }
+fn put_codes(pen: &mut Pen, text: &Text)
+    requires { pen.old.at + 4 * text.now.count ≤ 512 }
+    ensures { Writes pen.old (flat_map le32 (characters text.now)) pen.new }
 {
-    let mut next = at;
-    for c in text.as_slice() {
-        next = put_le32(out, next, *c as u32);
+    let codes = text.as_slice();
+    for c in codes {
+        put_le32(pen, *c as u32);
     }
-    next
 }
 
 // What follows the kind.
-fn put_fields(out: &mut [u8; 512], at: usize, s: &Sequence) -> usize
-    requires { at ≤ 4 }
-    ensures { Wrote out.old at (field_bytes (fields s.now)) out.new result }
+fn put_fields(pen: &mut Pen, s: &Sequence)
+    requires { pen.old.at ≤ 4 }
+    ensures { Writes pen.old (field_bytes (fields s.now)) pen.new }
 {
     let count = s.text.as_slice().len() as u8;
-    let at = put_le32(out, at, s.number);
-    let at = put_le32(out, at, or_none(s.shifted));
-    let at = put_le32(out, at, or_none(s.base));
-    let at = put_bytes(
-        out,
-        at,
-        &[
-            s.sum,
-            direction_number(s.direction),
-            last_byte(s.last),
-            count,
-        ],
-    );
-    put_codes(out, at, &s.text)
+    put_le32(pen, s.number);
+    put_le32(pen, or_none(s.shifted));
+    put_le32(pen, or_none(s.base));
+    pen.bytes(&[s.sum, s.direction.into(), s.last.into(), count]);
+    put_codes(pen, &s.text);
+}
+
+fn put_report(pen: &mut Pen, report: &Report)
+    requires { pen.old.at ≡ 0 }
+    ensures { Writes pen.old (frame_bytes (means report.now)) pen.new }
+{
+    match report {
+        Report::Text(c) => {
+            put_head(pen, 6, FrameKind::Text);
+            put_le32(pen, c.code() as u32);
+        }
+        Report::Old(c) => {
+            put_head(pen, 6, FrameKind::Old);
+            put_le32(pen, c.code() as u32);
+        }
+        Report::Answer(flags) => {
+            put_head(pen, 3, FrameKind::Answer);
+            pen.bytes(&[flags.bits() as u8]);
+        }
+        Report::Sequence(s) => {
+            put_head(
+                pen,
+                18 + 4 * s.text.as_slice().len() as u16,
+                FrameKind::Sequence,
+            );
+            put_fields(pen, s);
+        }
+    }
 }
 
 impl Dialect for Frames {
@@ -78,23 +105,8 @@ impl Dialect for Frames {
     ghost apart = { λ d. frame_apart };
 
     fn write(&self, report: &Report, out: &mut [u8; 512]) -> usize {
-        match report {
-            Report::Text(c) => {
-                let at = put_head(out, 6, 1);
-                put_le32(out, at, c.code() as u32)
-            }
-            Report::Old(c) => {
-                let at = put_head(out, 6, 4);
-                put_le32(out, at, c.code() as u32)
-            }
-            Report::Answer(flags) => {
-                let at = put_head(out, 3, 3);
-                put_bytes(out, at, &[flags.bits() as u8])
-            }
-            Report::Sequence(s) => {
-                let at = put_head(out, 18 + 4 * s.text.as_slice().len() as u16, 2);
-                put_fields(out, at, s)
-            }
-        }
+        let mut pen = Pen::new(out);
+        put_report(&mut pen, report);
+        pen.count()
     }
 }

@@ -7,7 +7,7 @@ use crate::modifiers::{KeyboardLedStatus, Modifiers};
 use crate::phys_key_code::PhysKeyCode;
 
 // A key event before any dead key or input method had it.
-#[derive(Drop)]
+#[derive(Drop, Debug)]
 pub struct RawKeyEvent<'a> {
     pub key: KeyCode<'a>,
     pub modifiers: Modifiers,
@@ -21,7 +21,7 @@ pub struct RawKeyEvent<'a> {
 }
 
 // A key event. It moves, and is neither copied nor cloned.
-#[derive(Drop)]
+#[derive(Drop, Debug)]
 pub struct KeyEvent<'a> {
     pub key: KeyCode<'a>,
     pub modifiers: Modifiers,

@@ -2,7 +2,7 @@
 ghost use Rattle.std.specs.Prelude.{◌≡◌, ◌<◌, ◌≤◌, MatchOption, bit_or};
 ghost use Rattle.input_types.specs.Bits.{holds, without};
 
-#[derive(Clone, Copy)]
+#[derive(Clone, Copy, Debug, PartialEq, Eq)]
 pub struct KittyKeyboardFlags {
     bits: u16,
     ghost named: { bits < 32 },

@@ -5,7 +5,7 @@ ghost use Rattle.input_types.specs.KeyMaps.{chars, digits, functions, phys_of, m
 
 use crate::phys_key_code::PhysKeyCode;
 
-#[derive(Clone, Copy)]
+#[derive(Clone, Copy, Debug, PartialEq, Eq)]
 pub enum KeyCode<'a> {
     // The decoded character. Backspace is U+0008, Tab U+0009, Enter U+000D, Escape U+001B, Delete U+007F.
     Char(char),

@@ -4,7 +4,7 @@ ghost use Rattle.input_types.specs.PhysMaps.{key_of, modifier_place};
 
 use crate::key_code::KeyCode;
 
-#[derive(Clone, Copy)]
+#[derive(Clone, Copy, Debug, PartialEq, Eq)]
 pub enum PhysKeyCode {
     A,
     B,

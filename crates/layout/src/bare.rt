@@ -3,7 +3,7 @@ ghost use Rattle.std.specs.Prelude.{refl};
 
 use crate::Layout;
 
-#[derive(Clone, Copy)]
+#[derive(Clone, Copy, Debug, PartialEq, Eq)]
 pub struct Bare;
 
 impl Layout for Bare {

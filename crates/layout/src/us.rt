@@ -9,7 +9,8 @@ use crate::Layout;
 // The lower-case form of a letter of Latin or Cyrillic script stands this far behind it; 0 for any other character.
 fn to_lower(c: char) -> u32
     ensures value { result ≡ to_lower capitals c }
-    ensures upper_bound { (result ≤ 80) × ((1072 ≤ c → result ≡ 0)) }
+    ensures bound { result ≤ 80 }
+    ensures past_capitals { 1072 ≤ c → result ≡ 0 }
 {
     match c {
         'A'..='Z' | 'À'..='Ö' | 'Ø'..='Þ' | 'А'..='Я' => 32,
@@ -57,7 +58,7 @@ pub fn us_layout_unshift(c: char) -> char
     }
 }
 
-#[derive(Clone, Copy)]
+#[derive(Clone, Copy, Debug, PartialEq, Eq)]
 pub struct Us;
 
 impl Layout for Us {

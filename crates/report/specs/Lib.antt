@@ -1,3 +1,5 @@
+pub mod EndingLaws
+pub mod Endings
 pub mod Made
 pub mod Meanings
 pub mod Pushes

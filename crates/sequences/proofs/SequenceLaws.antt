@@ -10,9 +10,9 @@ use Rattle.report.specs.declared.ending.Direction.TheVariants.{Press, Release}
 use Rattle.report.specs.declared.ending.Last.{Last}
 use Rattle.report.specs.declared.ending.Last.TheVariants.{U}
 use Rattle.report.specs.Meanings.{Fields, Coded}
-use Rattle.dialect.specs.Endings.{direction_number, is_press, last_byte}
+use Rattle.report.specs.Endings.{direction_number, is_press, last_byte}
 use Rattle.dialect.specs.KittyBytes.{optional, alternates, event, further, typed}
-use Rattle.dialect.specs.EndingLaws.{direction_same, direction_digit, last_high, last_byte_lem, last_stops}
+use Rattle.report.specs.EndingLaws.{direction_same, direction_digit, last_high, last_byte_lem, last_stops}
 use Rattle.dialect.specs.KittyLaws.{unlike}
 use Rattle.pieces.specs.declared.found.Fault.{Fault}
 use Rattle.pieces.specs.declared.found.Range.TheVariants.{Code, Sum}

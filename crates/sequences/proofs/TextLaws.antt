@@ -11,9 +11,9 @@ use Rattle.report.specs.Made.{parted}
 use Rattle.report.specs.Meanings.{Fields, Sound, Suits}
 use Rattle.report.specs.Pushes.{Pushed}
 use Rattle.report.proofs.Rows.{scalars_end}
-use Rattle.dialect.specs.Endings.{last_byte}
+use Rattle.report.specs.Endings.{last_byte}
 use Rattle.dialect.specs.KittyBytes.{optional, further, typed}
-use Rattle.dialect.specs.EndingLaws.{last_high, last_same}
+use Rattle.report.specs.EndingLaws.{last_high, last_same}
 use Rattle.dialect.specs.KittyLaws.{scalar_coded}
 use Rattle.pieces.specs.declared.found.Fault.{Fault}
 use Rattle.pieces.specs.declared.found.Fault.TheVariants.{Unknown}

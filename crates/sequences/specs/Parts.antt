@@ -7,7 +7,7 @@ use Rattle.report.specs.declared.ending.Last.{Last}
 use Rattle.report.specs.declared.ending.Last.TheVariants.{U}
 use Rattle.report.specs.Made.{parted}
 use Rattle.report.specs.Meanings.{Fields, Sound, Coded, fields}
-use Rattle.dialect.specs.Endings.{direction_number, is_press, last_byte}
+use Rattle.report.specs.Endings.{direction_number, is_press, last_byte}
 use Rattle.dialect.specs.KittyBytes.{alternates, event, further, typed, parts, plain}
 use Rattle.pieces.specs.declared.found.Fault.{Fault}
 use Rattle.pieces.specs.declared.found.Fault.TheVariants.{Unknown}

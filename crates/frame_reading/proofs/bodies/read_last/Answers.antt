@@ -1,6 +1,6 @@
 use Rattle.std.proofs.Common.{◌+◌, false, sym, ◌∙◌}
 use Rattle.sequences.proofs.Telling.{octet_break, octet_goes, octet_stops, tells_same}
-use Rattle.dialect.specs.EndingLaws.{last_same}
+use Rattle.report.specs.EndingLaws.{last_same}
 use Rattle.frame_reading.specs.Bodies.{AtCount, after_last, Ends}
 use Rattle.frame_reading.proofs.BodyLaws.{last_chain, count_last, last_count}
 use Rattle.frame_reading.proofs.bodies.read_last.Goals as goal

@@ -1,19 +1,17 @@
-use Rattle.std.proofs.Common.{◌≡◌, ◌+◌, ◌*◌, ◌++◌, length, sym, ap, ◌∙◌, arith}
-use Rattle.report.specs.Meanings.{means, sequence, fields}
+use Rattle.std.proofs.Common.{◌≤◌, length, ap, arith, rules}
+use Rattle.report.specs.Meanings.{means}
 use Rattle.report.proofs.Validity.{valid}
-use Rattle.dialect.proofs.Writing.{wrote_as, wrote_more, wrote_front}
-use Rattle.frames.specs.Framing.{le16, framed, frame_bytes}
-use Rattle.frames.specs.FrameLaws.{frame_sized, length-codes}
+use Rattle.dialect.proofs.Writing.{written}
+use Rattle.frames.specs.Framing.{frame_bytes}
+use Rattle.frames.specs.FrameLaws.{frame_sized}
 use Rattle.frames.proofs.frames.FramesDialect.write.Goals as goal
 
-pub returns-in-Sequence : goal.returns-in-Sequence
-returns-in-Sequence c =
-    let s = c.in-Sequence.s in
+pub returns : goal.returns
+returns c =
     let m = means c.args.report.now in
-    let is : m ≡ sequence (fields s) = ap means c.in-Sequence.is in
-    let count : length c.as_slice.result.now ≡ length (fields s).text = ap length c.as_slice.ensures in
-    let long : 18 + 4 * length c.as_slice.result.now ≡ length (framed (sequence (fields s))) = omega (arith, count, length-codes (fields s).text) in
-    let e : le16 (18 + 4 * length c.as_slice.result.now) ++ framed (sequence (fields s)) ≡ frame_bytes m = ap (λ k. le16 k ++ framed (sequence (fields s))) long ∙ ap frame_bytes (sym is) in
-    let whole = wrote_as {ys = frame_bytes m} e (wrote_more c.put_head-at-in-Sequence.ensures c.put_fields.ensures) in
-    let r = wrote_front c.args.out.now c.put_fields.new.out c.put_fields.result (frame_bytes m) (omega (arith, frame_sized m (valid c.args.report.now))) whole in
-    record { count = r.0; after = r.1 }
+    let n = c.told-out in
+    let fits : length (frame_bytes m) ≤ length c.args.out.now = omega (arith, frame_sized m (valid c.args.report.now), n) in
+    let w = written c.new-pen.ensures.front (ap (λ o. o.now) c.new-pen.ensures.row) fits c.put_report.ensures c.count.ensures in
+    let same = c.put_report.ensures.same_row in
+    let after = w.1 in
+    record { count = w.0; after = search (rules, same, after) }

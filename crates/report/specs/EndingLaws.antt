@@ -6,7 +6,7 @@ use Rattle.report.specs.declared.ending.Direction.{Direction}
 use Rattle.report.specs.declared.ending.Direction.TheVariants.{Press, Release}
 use Rattle.report.specs.declared.ending.Last.{Last}
 use Rattle.report.specs.declared.ending.Last.TheVariants.{U, Tilde, Up, Down, Right, Left, Begin, End, Home}
-use Rattle.dialect.specs.Endings.{direction_number, last_byte}
+use Rattle.report.specs.Endings.{direction_number, last_byte}
 
 -- the direction that a number stands for
 direction_of : ℕ → Direction

@@ -1,5 +1,5 @@
 -- Characters in UTF-8, byte by byte.
-use Rattle.std.proofs.Common.{◌≡◌, ℕ, ◌+◌, ◌-◌, ◌*◌, ◌/◌, ◌%◌, ◌<◌, ◌≤◌, true, cond, ◌&&◌, ltb, leb, ◌⊎◌, List, [], ◌∷◌, ◌++◌, length, get_or, drop, Ok, Err, Result, sym, refl, ap, ◌∙◌, inl, inr, arith}
+use Rattle.std.proofs.Common.{◌≡◌, ℕ, ◌+◌, ◌-◌, ◌*◌, ◌/◌, ◌%◌, ◌<◌, ◌≤◌, true, cond, ◌&&◌, ltb, leb, ◌⊎◌, List, [], ◌∷◌, ◌++◌, length, get_or, drop, IsErrAnd, Ok, Err, Result, sym, subst, refl, ap, ◌∙◌, inl, inr, arith}
 use lib.Utf8.{scalar, encode, scalar_cases, low_scalar}
 use Rattle.std.proofs.lemmas.Bool.{cases_lt, lt-ltb, le-ltb, le-leb, and_from}
 use Rattle.pieces.specs.Languages.{Taken, Takes, whole, part, nothing}
@@ -7,7 +7,7 @@ use Rattle.std.proofs.lemmas.Str.{encode_ascii}
 use Rattle.pieces.specs.declared.found.Fault.{Fault}
 use Rattle.pieces.specs.declared.found.Fault.TheVariants.{Short, Unknown}
 use Rattle.pieces.specs.declared.found.Letter.{Letter}
-use Rattle.pieces.specs.Letters.{One, Two, Three, Four, Plain, Characters, Spells}
+use Rattle.pieces.specs.Letters.{One, Two, Three, Four, Plain, Characters, Spells, Trails}
 
 -- bytes at the front of a row
 pub none : (g : List ℕ) → length g ≡ 0 → g ≡ []
@@ -296,3 +296,34 @@ pub spells_as : (L : List ℕ → ℕ → Type 0) (given : List ℕ) → ((x : T
 spells_as L given f (Ok a) p = (f (whole a.code (drop a.next given)) p.0, p.1)
 spells_as L given f (Err Short) p = f part p
 spells_as L given f (Err Unknown) p = f nothing p
+
+-- what the fault of a further byte says of the whole character
+fails_so : (L : List ℕ → ℕ → Type 0) (g : List ℕ) (at : ℕ) → (length g ≤ at → Takes L g part) → (at < length g → (get_or g at 0 < 128) ⊎ (192 ≤ get_or g at 0) → Takes L g nothing) → (r : Result Letter Fault) (e : Fault) → IsErrAnd r (λ x. x ≡ e) → Trails g at (Err e) → Spells L g r
+fails_so L g at short none (Ok a) e p q = absurd p
+fails_so L g at short none (Err x) e p q = subst (λ y. Spells L g (Err y)) (sym p) (go e q)
+  where
+    go : (e : Fault) → Trails g at (Err e) → Spells L g (Err e)
+    go Short q = short q
+    go Unknown q = none q.0 q.1
+
+module _ (g : List ℕ) (some : 0 < length g) where
+  pub two_fails : 194 ≤ get_or g 0 0 → get_or g 0 0 < 224 → (r : Result Letter Fault) (e : Fault) → IsErrAnd r (λ x. x ≡ e) → Trails g 1 (Err e) → Spells Two g r
+  two_fails low high = fails_so Two g 1 (λ s. subst (λ g. Takes Two g part) (sym (just_1 g some (omega arith))) (two_short (get_or g 0 0) low high)) (λ l o. subst (λ g. Takes Two g nothing) (sym (from_2 g l)) (two_none (get_or g 0 0) (get_or g 1 0) (drop 2 g) o))
+
+  module _ (low : 224 ≤ get_or g 0 0) (high : get_or g 0 0 < 240) where
+    pub three_fails_2 : (r : Result Letter Fault) (e : Fault) → IsErrAnd r (λ x. x ≡ e) → Trails g 1 (Err e) → Spells Three g r
+    three_fails_2 = fails_so Three g 1 (λ s. subst (λ g. Takes Three g part) (sym (just_1 g some (omega arith))) (three_first (get_or g 0 0) low high)) (λ l o. subst (λ g. Takes Three g nothing) (sym (from_2 g l)) (three_none_2 (get_or g 0 0) (get_or g 1 0) (drop 2 g) low o))
+
+    pub three_fails_3 : (n : ℕ) → Trails g 1 (Ok n) → 32 ≤ (get_or g 0 0 - 224) * 64 + n → ((get_or g 0 0 - 224) * 64 + n < 864) ⊎ (896 ≤ (get_or g 0 0 - 224) * 64 + n) → (r : Result Letter Fault) (e : Fault) → IsErrAnd r (λ x. x ≡ e) → Trails g 2 (Err e) → Spells Three g r
+    three_fails_3 n t f o = fails_so Three g 2 (λ s. subst (λ g. Takes Three g part) (sym (just_2 g t.0 (omega arith))) (three_short (get_or g 0 0) (get_or g 1 0) low high t.1 t.2 (omega (arith, t.3)) (elim o [ inl q ↦ inl (omega (arith, t.3)) | inr q ↦ inr (omega (arith, t.3)) ]))) (λ l o. subst (λ g. Takes Three g nothing) (sym (from_3 g l)) (three_none_3 (get_or g 0 0) (get_or g 1 0) (get_or g 2 0) (drop 3 g) o))
+
+  module _ (low : 240 ≤ get_or g 0 0) (high : get_or g 0 0 < 245) where
+    pub four_fails_2 : (r : Result Letter Fault) (e : Fault) → IsErrAnd r (λ x. x ≡ e) → Trails g 1 (Err e) → Spells Four g r
+    four_fails_2 = fails_so Four g 1 (λ s. subst (λ g. Takes Four g part) (sym (just_1 g some (omega arith))) (four_first (get_or g 0 0) low high)) (λ l o. subst (λ g. Takes Four g nothing) (sym (from_2 g l)) (four_none_2 (get_or g 0 0) (get_or g 1 0) (drop 2 g) o))
+
+    module _ (n : ℕ) (t : Trails g 1 (Ok n)) (f : 16 ≤ (get_or g 0 0 - 240) * 64 + n) (h : (get_or g 0 0 - 240) * 64 + n < 272) where
+      pub four_fails_3 : (r : Result Letter Fault) (e : Fault) → IsErrAnd r (λ x. x ≡ e) → Trails g 2 (Err e) → Spells Four g r
+      four_fails_3 = fails_so Four g 2 (λ s. subst (λ g. Takes Four g part) (sym (just_2 g t.0 (omega arith))) (four_short_2 (get_or g 0 0) (get_or g 1 0) low t.1 t.2 (omega (arith, t.3)) (omega (arith, t.3)))) (λ l o. subst (λ g. Takes Four g nothing) (sym (from_3 g l)) (four_none_3 (get_or g 0 0) (get_or g 1 0) (get_or g 2 0) (drop 3 g) o))
+
+      pub four_fails_4 : (m : ℕ) → Trails g 2 (Ok m) → (r : Result Letter Fault) (e : Fault) → IsErrAnd r (λ x. x ≡ e) → Trails g 3 (Err e) → Spells Four g r
+      four_fails_4 m u = fails_so Four g 3 (λ s. subst (λ g. Takes Four g part) (sym (just_3 g u.0 (omega arith))) (four_short_3 (get_or g 0 0) (get_or g 1 0) (get_or g 2 0) low t.1 t.2 u.1 u.2 (omega (arith, t.3)) (omega (arith, t.3)))) (λ l o. subst (λ g. Takes Four g nothing) (sym (from_4 g l)) (four_none_4 (get_or g 0 0) (get_or g 1 0) (get_or g 2 0) (get_or g 3 0) (drop 4 g) o))

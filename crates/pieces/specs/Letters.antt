@@ -1,7 +1,8 @@
 -- A character in UTF-8, as a whole and by its number of bytes.
-use Rattle.std.specs.Prelude.{◌≡◌, ℕ, ◌+◌, ◌/◌, ◌%◌, ◌<◌, ◌≤◌, true, ◌⊎◌, List, [], ◌∷◌, Result, ◌≢◌}
+use Rattle.std.specs.Prelude.{◌≡◌, ℕ, ◌+◌, ◌-◌, ◌/◌, ◌%◌, ◌<◌, ◌≤◌, true, ◌⊎◌, List, [], ◌∷◌, length, slice_index, Ok, Err, Result, ◌≢◌}
 use Rattle.std.proofs.Math.Utf8.{scalar, encode}
 use Rattle.pieces.specs.declared.found.Fault.{Fault}
+use Rattle.pieces.specs.declared.found.Fault.TheVariants.{Short, Unknown}
 use Rattle.pieces.specs.declared.found.Letter.{Letter}
 use Rattle.pieces.specs.Says.{Says}
 
@@ -27,3 +28,9 @@ Four s c = (65536 ≤ c) × (c < 1114112) × (s ≡ (240 + c / 262144) ∷ (128 
 
 abbrev pub Spells : (List ℕ → ℕ → Type 0) → List ℕ → Result Letter Fault → Type 0
 Spells L given r = Says L (λ x. x.code) (λ x. x.next) given 0 r
+
+-- the six bits that the byte at a place adds
+abbrev pub Trails : List ℕ → ℕ → Result ℕ Fault → Type 0
+Trails given at (Ok n) = (at < length given) × (128 ≤ slice_index given at) × (slice_index given at < 192) × (n ≡ slice_index given at - 128)
+Trails given at (Err Short) = length given ≤ at
+Trails given at (Err Unknown) = (at < length given) × ((slice_index given at < 128) ⊎ (192 ≤ slice_index given at))

@@ -32,18 +32,9 @@ fn digit_more(value: Option<u32>, digit: u32, range: Range) -> Option<u32>
     let least = least_of(range);
     let most = most_of(range);
     match value {
-        None => if least <= digit && digit <= most {
-            Some(digit)
-        } else {
-            None
-        },
-        Some(k) => {
-            if 0 < k && k <= most && k * 10 + digit <= most {
-                Some(k * 10 + digit)
-            } else {
-                None
-            }
-        }
+        None if least <= digit && digit <= most => Some(digit),
+        Some(k) if 0 < k && k <= most && k * 10 + digit <= most => Some(k * 10 + digit),
+        _ => None,
     }
 }
 
@@ -51,22 +42,17 @@ fn digit_more(value: Option<u32>, digit: u32, range: Range) -> Option<u32>
 pub fn digits(bytes: &[u8], at: usize, range: Range) -> Result<Ended, Fault>
     ensures { Ends range bytes.now at result }
 {
-    let mut value: Option<u32> = None;
-    let mut i = at;
-    while i < bytes.len() {
-        let b = bytes[i];
-        if !b.is_ascii_digit() {
-            return Ok(Ended {
-                value,
-                mark: b,
-                next: i + 1,
-            });
+    let mut value = None;
+    for i in at..bytes.len() {
+        let mark = bytes[i];
+        if !mark.is_ascii_digit() {
+            let next = i + 1;
+            return Ok(Ended { value, mark, next });
         }
-        match digit_more(value, (b - b'0') as u32, range) {
-            None => return Err(Fault::Unknown),
-            Some(n) => value = Some(n),
-        }
-        i += 1;
+        let Some(n) = digit_more(value, (mark - b'0') as u32, range) else {
+            return Err(Fault::Unknown);
+        };
+        value = Some(n);
     }
     Err(Fault::Short)
 }

@@ -1,6 +1,6 @@
 // Reads a character in UTF-8 from the front of given bytes.
 ghost use Rattle.std.specs.Prelude.{◌≡◌, ◌<◌, ◌≤◌, length, slice_index};
-ghost use Rattle.pieces.specs.Letters.{Two, Three, Four, Plain, Characters, Spells};
+ghost use Rattle.pieces.specs.Letters.{Two, Three, Four, Plain, Characters, Spells, Trails};
 
 use crate::found::{Fault, Letter};
 
@@ -21,23 +21,25 @@ fn letter(code: u32, next: usize) -> Letter
     }
 }
 
+// The six bits that the byte at a place adds to a character.
+fn tail(bytes: &[u8], at: usize) -> Result<u32, Fault>
+    ensures { Trails bytes.now at result }
+{
+    let b = *bytes.get(at).ok_or(Fault::Short)?;
+    if b < 0x80 || b > 0xbf {
+        return Err(Fault::Unknown);
+    }
+    Ok(b as u32 - 0x80)
+}
+
 fn two(bytes: &[u8]) -> Result<Letter, Fault>
     requires some { 0 < length bytes.now }
     requires low { 194 ≤ slice_index bytes.now 0 }
     requires high { slice_index bytes.now 0 < 224 }
     ensures { Spells Two bytes.now result }
 {
-    if bytes.len() < 2 {
-        return Err(Fault::Short);
-    }
-    let b = bytes[1];
-    if b < 0x80 {
-        return Err(Fault::Unknown);
-    }
-    if 0xc0 <= b {
-        return Err(Fault::Unknown);
-    }
-    Ok(letter((bytes[0] as u32 - 0xc0) * 64 + (b as u32 - 0x80), 2))
+    let low = tail(bytes, 1)?;
+    Ok(letter((bytes[0] as u32 - 0xc0) * 64 + low, 2))
 }
 
 fn three(bytes: &[u8]) -> Result<Letter, Fault>
@@ -46,36 +48,13 @@ fn three(bytes: &[u8]) -> Result<Letter, Fault>
     requires high { slice_index bytes.now 0 < 240 }
     ensures { Spells Three bytes.now result }
 {
-    if bytes.len() < 2 {
-        return Err(Fault::Short);
-    }
-    let b = bytes[1];
-    if b < 0x80 {
+    let high = tail(bytes, 1)?;
+    let front = (bytes[0] as u32 - 0xe0) * 64 + high;
+    if front < 0x20 || (SURROGATES <= front && front < PAST_SURROGATES) {
         return Err(Fault::Unknown);
     }
-    if 0xc0 <= b {
-        return Err(Fault::Unknown);
-    }
-    let front = (bytes[0] as u32 - 0xe0) * 64 + (b as u32 - 0x80);
-    if front < 0x20 {
-        return Err(Fault::Unknown);
-    }
-    if SURROGATES <= front {
-        if front < PAST_SURROGATES {
-            return Err(Fault::Unknown);
-        }
-    }
-    if bytes.len() < 3 {
-        return Err(Fault::Short);
-    }
-    let d = bytes[2];
-    if d < 0x80 {
-        return Err(Fault::Unknown);
-    }
-    if 0xc0 <= d {
-        return Err(Fault::Unknown);
-    }
-    Ok(letter(front * 64 + (d as u32 - 0x80), 3))
+    let low = tail(bytes, 2)?;
+    Ok(letter(front * 64 + low, 3))
 }
 
 fn four(bytes: &[u8]) -> Result<Letter, Fault>
@@ -84,70 +63,32 @@ fn four(bytes: &[u8]) -> Result<Letter, Fault>
     requires high { slice_index bytes.now 0 < 245 }
     ensures { Spells Four bytes.now result }
 {
-    if bytes.len() < 2 {
-        return Err(Fault::Short);
-    }
-    let b = bytes[1];
-    if b < 0x80 {
+    let high = tail(bytes, 1)?;
+    let front = (bytes[0] as u32 - 0xf0) * 64 + high;
+    if front < 0x10 || 0x110 <= front {
         return Err(Fault::Unknown);
     }
-    if 0xc0 <= b {
-        return Err(Fault::Unknown);
-    }
-    let front = (bytes[0] as u32 - 0xf0) * 64 + (b as u32 - 0x80);
-    if front < 0x10 {
-        return Err(Fault::Unknown);
-    }
-    if 0x110 <= front {
-        return Err(Fault::Unknown);
-    }
-    if bytes.len() < 3 {
-        return Err(Fault::Short);
-    }
-    let d = bytes[2];
-    if d < 0x80 {
-        return Err(Fault::Unknown);
-    }
-    if 0xc0 <= d {
-        return Err(Fault::Unknown);
-    }
-    if bytes.len() < 4 {
-        return Err(Fault::Short);
-    }
-    let e = bytes[3];
-    if e < 0x80 {
-        return Err(Fault::Unknown);
-    }
-    if 0xc0 <= e {
-        return Err(Fault::Unknown);
-    }
-    Ok(letter((front * 64 + (d as u32 - 0x80)) * 64 + (e as u32 - 0x80), 4))
+    let middle = tail(bytes, 2)?;
+    let low = tail(bytes, 3)?;
+    Ok(letter((front * 64 + middle) * 64 + low, 4))
 }
 
 // The character at the front, which may not be ESC.
 pub fn read_letter(bytes: &[u8]) -> Result<Letter, Fault>
     ensures { Spells Characters bytes.now result }
 {
-    if bytes.len() == 0 {
+    let [b, ..] = bytes else {
         return Err(Fault::Short);
-    }
-    let b = bytes[0];
-    if b == ESC {
-        Err(Fault::Unknown)
-    } else if b < 0x80 {
-        Ok(Letter {
-            code: b as char,
+    };
+    match *b {
+        ESC => Err(Fault::Unknown),
+        0..=0x7f => Ok(Letter {
+            code: *b as char,
             next: 1,
-        })
-    } else if b < 0xc2 {
-        Err(Fault::Unknown)
-    } else if b < 0xe0 {
-        two(bytes)
-    } else if b < 0xf0 {
-        three(bytes)
-    } else if b < 0xf5 {
-        four(bytes)
-    } else {
-        Err(Fault::Unknown)
+        }),
+        0xc2..=0xdf => two(bytes),
+        0xe0..=0xef => three(bytes),
+        0xf0..=0xf4 => four(bytes),
+        _ => Err(Fault::Unknown),
     }
 }

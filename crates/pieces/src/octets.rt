@@ -6,9 +6,8 @@ use crate::found::Fault;
 pub fn octet(bytes: &[u8], at: usize) -> Result<u8, Fault>
     ensures { SaysOctet bytes.now at result }
 {
-    if at < bytes.len() {
-        Ok(bytes[at])
-    } else {
-        Err(Fault::Short)
+    match bytes.get(at) {
+        Some(b) => Ok(*b),
+        None => Err(Fault::Short),
     }
 }

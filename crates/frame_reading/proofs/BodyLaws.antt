@@ -18,7 +18,7 @@ use Rattle.frames.specs.FrameLaws.{or_none-same}
 use Rattle.pieces.specs.Octets.{Octets}
 use Rattle.pieces.proofs.Chains.{Chain, opened}
 use Rattle.pieces.proofs.OctetLaws.{octet_same, octet_starts}
-use Rattle.sequences.specs.declared.told.Head.{Head}
+use Rattle.sequences.specs.Leads.{Lead}
 use Rattle.sequences.specs.Parts.{Started, filled, headed}
 use Rattle.frame_reading.specs.declared.found.Rule.TheVariants.{Code, Optional, Scalar, Clear}
 use Rattle.frame_reading.specs.Bodies.{AtText, AtFlags, Good, from_count, from_last, from_direction, from_sum, from_base, from_shifted, AtNumber, AtShifted, AtBase, AtSum, AtDirection, Leads, AtLast, AtCount, AtCodes, after_shifted, after_base, after_direction, after_last, after_count}
@@ -54,10 +54,10 @@ scalars_zeros : (k : ℕ) → scalars (replicate k 0) ≡ true
 scalars_zeros zero = refl
 scalars_zeros (suc k) = scalars_zeros k
 
-unfoldable pub zeros : Head → ℕ → Fields
+unfoldable pub zeros : Lead → ℕ → Fields
 zeros h k = filled h U (replicate k 0)
 
-pub zeros_good : (h : Head) (k : ℕ) → Started h → k ≤ 32 → Good k (zeros h k)
+pub zeros_good : (h : Lead) (k : ℕ) → Started h → k ≤ 32 → Good k (zeros h k)
 unfolding zeros
 zeros_good h k a l = (record { number_fits = a.0; shifted_fits = a.1; base_fits = a.2; sum_fits = a.3; characters_are = scalars_zeros k; few = simp length-replicate (omega arith); suits = tt }, length-replicate k 0)
 
@@ -85,7 +85,7 @@ module _ (k : ℕ) (l : k ≤ 32) where
     starts = opened (Quads Code) (AtNumber k) number_opens;
   }
 
-  module _ (h : Head) (a : Started h) where
+  module _ (h : Lead) (a : Started h) where
     -- the shifted code
     shifted_opens : (v : ℕ) (p : List ℕ) → Quads Optional p v → (m : Fields) × (r : List ℕ) × AtShifted k h (p ++ r) m
     unfolding zeros
@@ -149,16 +149,16 @@ module _ (k : ℕ) (l : k ≤ 32) where
     }
 
 -- what code follows the value of four bytes
-pub shifted_base : (k : ℕ) (h : Head) (v : ℕ) (o : Option ℕ) → Coded o → or_none o ≡ v → (f : Fields) (s : List ℕ) → AtBase k (headed h.number o h.base h.sum h.direction) s f → after_shifted k h v s f
+pub shifted_base : (k : ℕ) (h : Lead) (v : ℕ) (o : Option ℕ) → Coded o → or_none o ≡ v → (f : Fields) (s : List ℕ) → AtBase k (headed h.number o h.base h.sum h.direction) s f → after_shifted k h v s f
 shifted_base k h v o c e f s q = (q.0, q.1, ap or_none q.2 ∙ e, q.3)
 
-pub base_shifted : (k : ℕ) (h : Head) (v : ℕ) (o : Option ℕ) → Coded o → or_none o ≡ v → (f : Fields) (s : List ℕ) → after_shifted k h v s f → AtBase k (headed h.number o h.base h.sum h.direction) s f
+pub base_shifted : (k : ℕ) (h : Lead) (v : ℕ) (o : Option ℕ) → Coded o → or_none o ≡ v → (f : Fields) (s : List ℕ) → after_shifted k h v s f → AtBase k (headed h.number o h.base h.sum h.direction) s f
 base_shifted k h v o c e f s q = (q.0, q.1, or_none-same f.shifted o q.0.0.shifted_fits c (q.2 ∙ sym e), q.3)
 
-pub base_sum : (k : ℕ) (h : Head) (v : ℕ) (o : Option ℕ) → Coded o → or_none o ≡ v → (f : Fields) (s : List ℕ) → AtSum k (headed h.number h.shifted o h.sum h.direction) s f → after_base k h v s f
+pub base_sum : (k : ℕ) (h : Lead) (v : ℕ) (o : Option ℕ) → Coded o → or_none o ≡ v → (f : Fields) (s : List ℕ) → AtSum k (headed h.number h.shifted o h.sum h.direction) s f → after_base k h v s f
 base_sum k h v o c e f s q = (q.0, q.1, q.2, ap or_none q.3 ∙ e, q.4)
 
-pub sum_base : (k : ℕ) (h : Head) (v : ℕ) (o : Option ℕ) → Coded o → or_none o ≡ v → (f : Fields) (s : List ℕ) → after_base k h v s f → AtSum k (headed h.number h.shifted o h.sum h.direction) s f
+pub sum_base : (k : ℕ) (h : Lead) (v : ℕ) (o : Option ℕ) → Coded o → or_none o ≡ v → (f : Fields) (s : List ℕ) → after_base k h v s f → AtSum k (headed h.number h.shifted o h.sum h.direction) s f
 sum_base k h v o c e f s q = (q.0, q.1, q.2, or_none-same f.base o q.0.0.base_fits c (q.3 ∙ sym e), q.4)
 
 -- a code that four bytes were allowed to be
@@ -170,17 +170,17 @@ coded_of v (Some n) e i = elim (or_cases (leb v 1114111) (eqb v 4294967295) e) [
 ]
 
 -- the direction that a byte is
-pub direction_last : (k : ℕ) (h : Head) (b : ℕ) (d : Direction) → direction_number d ≡ b → (f : Fields) (s : List ℕ) → AtLast k (headed h.number h.shifted h.base h.sum d) s f → after_direction k h b s f
+pub direction_last : (k : ℕ) (h : Lead) (b : ℕ) (d : Direction) → direction_number d ≡ b → (f : Fields) (s : List ℕ) → AtLast k (headed h.number h.shifted h.base h.sum d) s f → after_direction k h b s f
 direction_last k h b d e f s q = (q.0, q.1.0, q.1.1, q.1.2, q.1.3, ap direction_number q.1.4 ∙ e, q.2)
 
-pub last_direction : (k : ℕ) (h : Head) (b : ℕ) (d : Direction) → direction_number d ≡ b → (f : Fields) (s : List ℕ) → after_direction k h b s f → AtLast k (headed h.number h.shifted h.base h.sum d) s f
+pub last_direction : (k : ℕ) (h : Lead) (b : ℕ) (d : Direction) → direction_number d ≡ b → (f : Fields) (s : List ℕ) → after_direction k h b s f → AtLast k (headed h.number h.shifted h.base h.sum d) s f
 last_direction k h b d e f s q = (q.0, (q.1, q.2, q.3, q.4, direction_same f.direction d (q.5 ∙ sym e)), q.6)
 
 -- the end that a byte is
-pub count_last : (k : ℕ) (h : Head) (b : ℕ) (l : Last) → last_byte l ≡ b → (f : Fields) (s : List ℕ) → AtCount k h l s f → after_last k h b s f
+pub count_last : (k : ℕ) (h : Lead) (b : ℕ) (l : Last) → last_byte l ≡ b → (f : Fields) (s : List ℕ) → AtCount k h l s f → after_last k h b s f
 count_last k h b l e f s q = (q.0, q.1, ap last_byte q.2 ∙ e, q.3)
 
-pub last_count : (k : ℕ) (h : Head) (b : ℕ) (l : Last) → last_byte l ≡ b → (f : Fields) (s : List ℕ) → after_last k h b s f → AtCount k h l s f
+pub last_count : (k : ℕ) (h : Lead) (b : ℕ) (l : Last) → last_byte l ≡ b → (f : Fields) (s : List ℕ) → after_last k h b s f → AtCount k h l s f
 last_count k h b l e f s q = (q.0, q.1, last_same f.last l (q.2 ∙ sym e), q.3)
 
 none_left : (k : ℕ) (xs : List ℕ) → replicate {A = ℕ} k 0 ≡ [] → length xs ≡ k → xs ≡ []
@@ -190,7 +190,7 @@ none_left k (x ∷ xs) e l =
     absurd (omega (arith, l, z))
 
 -- where k characters can follow, any k can
-module _ (h : Head) (k : ℕ) (xs : List ℕ) (long : length xs ≡ k) where
+module _ (h : Lead) (k : ℕ) (xs : List ℕ) (long : length xs ≡ k) where
   bare_refill : (l : Last) → Bare (filled h l (replicate k 0)) → Bare (filled h l xs)
   bare_refill l p = (p.0, p.1, none_left k xs p.2 long)
 
@@ -218,7 +218,7 @@ scalars_both : (cs ds : List ℕ) → scalars cs ≡ true → scalars ds ≡ tru
 scalars_both [] ds v w = w
 scalars_both (c ∷ cs) ds v w = let p = and_parts (scalar c) (scalars cs) v in and_from (scalar c) (scalars (cs ++ ds)) p.0 (scalars_both cs ds p.1 w)
 
-module _ (k : ℕ) (h : Head) (l : Last) (ready : Sound (filled h l (replicate k 0))) where
+module _ (k : ℕ) (h : Lead) (l : Last) (ready : Sound (filled h l (replicate k 0))) where
   few : k ≤ 32
   few = subst (λ n. n ≤ 32) (length-replicate k 0) ready.few
 
@@ -262,13 +262,13 @@ module _ (k : ℕ) (h : Head) (l : Last) (ready : Sound (filled h l (replicate k
     codes_chain = record { same = quads_same Scalar; form = codes_form; join = codes_join; starts = opened (Quads Scalar) (AtCodes k h l cs) codes_opens }
 
 -- a sequence is told by its parts
-pub leads_is : (h : Head) (f : Fields) (l : Last) (cs : List ℕ) → Leads h f → f.last ≡ l → f.text ≡ cs → f ≡ filled h l cs
+pub leads_is : (h : Lead) (f : Fields) (l : Last) (cs : List ℕ) → Leads h f → f.last ≡ l → f.text ≡ cs → f ≡ filled h l cs
 leads_is h f l cs p e g =
     let all : parted f.number f.shifted f.base f.sum f.direction f.last f.text ≡ parted h.number h.shifted h.base h.sum h.direction l cs = cc (p.0, p.1, p.2, p.3, p.4, e, g) in
     all
 
 -- all characters are read
-pub codes_all : (k : ℕ) (h : Head) (l : Last) (cs : List ℕ) → length cs ≡ k → (f : Fields) (s : List ℕ) → AtCodes k h l cs s f → (f ≡ filled h l cs) × (s ≡ [])
+pub codes_all : (k : ℕ) (h : Lead) (l : Last) (cs : List ℕ) → length cs ≡ k → (f : Fields) (s : List ℕ) → AtCodes k h l cs s f → (f ≡ filled h l cs) × (s ≡ [])
 codes_all k h l cs n f s q = go q.3.0 q.3.1 q.3.2
   where
     go : (ds : List ℕ) → f.text ≡ cs ++ ds → s ≡ flat_map le32 ds → (f ≡ filled h l cs) × (s ≡ [])

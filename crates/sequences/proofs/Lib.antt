@@ -1,3 +1,4 @@
+pub mod Heads
 pub mod SequenceLaws
 pub mod Telling
 pub mod TextLaws

@@ -21,7 +21,7 @@ use Rattle.pieces.specs.Runs.{Within}
 use Rattle.pieces.proofs.Chains.{Chain}
 use Rattle.pieces.proofs.OctetLaws.{octet_same, octet_starts}
 use Rattle.pieces.proofs.Stages.{Stage}
-use Rattle.sequences.specs.declared.told.Head.{Head}
+use Rattle.sequences.specs.Leads.{Lead}
 use Rattle.sequences.specs.declared.told.Told.{Told}
 use Rattle.sequences.specs.Parts.{Long, closing, held, AtNumber, AtShifted, AtBase, AtSum, headed, redirected, AtEvent, AtMark, AtClosing, choose, after_number, after_shifted, after_base, after_sum, after_event, Started, filled, Tells}
 
@@ -41,7 +41,7 @@ within_coded None c = tt
 within_coded (Some n) c = (omega arith, c)
 
 -- with the final u, any parts in range make a sequence
-pub long_u : (h : Head) (cs : List ℕ) → Started h → scalars cs ≡ true → length cs ≤ 32 → Long (filled h U cs)
+pub long_u : (h : Lead) (cs : List ℕ) → Started h → scalars cs ≡ true → length cs ≤ 32 → Long (filled h U cs)
 long_u h cs a c l = (record { number_fits = a.0; shifted_fits = a.1; base_fits = a.2; sum_fits = a.3; characters_are = c; few = l; suits = tt }, and_right (eqb h.number 1) false refl)
 
 one_up : (n : ℕ) → n + 1 - 1 ≡ n
@@ -203,7 +203,7 @@ module _ (n : ℕ) (o p : Option ℕ) where
   sum_stage a c d = record { form = sum_form; join = sum_join; opens = sum_opens a c d }
 
 -- the digit of the direction
-module _ (h : Head) where
+module _ (h : Lead) where
   event_form : (f : Fields) (s : List ℕ) → AtEvent h s f → (b : ℕ) × (p : List ℕ) × (r : List ℕ) × Octets p b × (s ≡ p ++ r) × after_event h b r f
   event_form f s q =
       let b = 48 + direction_number f.direction in

@@ -22,7 +22,7 @@ use Rattle.pieces.specs.Languages.{Takes, whole}
 use Rattle.pieces.specs.Runs.{Within}
 use Rattle.pieces.proofs.Extending.{decimal_extend}
 use Rattle.pieces.proofs.Stages.{Stage}
-use Rattle.sequences.specs.declared.told.Head.{Head}
+use Rattle.sequences.specs.Leads.{Lead}
 use Rattle.sequences.specs.declared.told.Told.{Told}
 use Rattle.sequences.specs.Parts.{Long, Headed, AtClosing, AtText, AtEnd, after_character, Started, filled, Tells, Makes}
 use Rattle.sequences.proofs.SequenceLaws.{chosen, long_u}
@@ -62,7 +62,7 @@ surrogate_more c k e = elim (cases_lt c 55296) [
   ]
 ]
 
-module _ (h : Head) (cs : List ℕ) where
+module _ (h : Lead) (cs : List ℕ) where
   text_form : (f : Fields) (s : List ℕ) → AtText h cs s f → (v : Option ℕ) × (b : ℕ) × (r : List ℕ) × Within Code v × (is_ascii_digit b ≡ false) × (s ≡ optional v ++ (b ∷ r)) × after_character h cs v b r f
   text_form f s p = go p.1.1 p.1.2 p.1.3
     where
@@ -113,7 +113,7 @@ module _ (h : Head) (cs : List ℕ) where
       omega (arith, k, p.0.0.0.few)
 
 -- the text, where there is one
-pub closing_text : (h : Head) (f : Fields) (s : List ℕ) → AtClosing h 59 s f → AtText h [] s f
+pub closing_text : (h : Lead) (f : Fields) (s : List ℕ) → AtClosing h 59 s f → AtText h [] s f
 closing_text h f s p = go f.text refl
   where
     go : (cs : List ℕ) → f.text ≡ cs → AtText h [] s f
@@ -126,7 +126,7 @@ closing_text h f s p = go f.text refl
         let r : s ≡ (decimal c ++ further cs) ++ (last_byte f.last ∷ []) = cc (q) in
         (p.0, (c, cs, e, r ∙ append_assoc (decimal c) (further cs) (last_byte f.last ∷ [])))
 
-pub text_closing : (h : Head) (f : Fields) (s : List ℕ) → AtText h [] s f → AtClosing h 59 s f
+pub text_closing : (h : Lead) (f : Fields) (s : List ℕ) → AtText h [] s f → AtClosing h 59 s f
 text_closing h f s p =
     let c = p.1.0 in
     let cs = p.1.1 in
@@ -138,7 +138,7 @@ closing_last [] l b s h e = (refl, cc, cc)
 closing_last (c ∷ cs) l b s h e = let z : b ≡ 59 = cc in absurd (h z)
 
 -- a sequence is told by its parts
-headed_is : (h : Head) (f : Fields) (l : Last) (cs : List ℕ) → Headed h f → f.last ≡ l → f.text ≡ cs → f ≡ filled h l cs
+headed_is : (h : Lead) (f : Fields) (l : Last) (cs : List ℕ) → Headed h f → f.last ≡ l → f.text ≡ cs → f ≡ filled h l cs
 headed_is h f l cs p e g =
     let all : parted f.number f.shifted f.base f.sum f.direction f.last f.text ≡ parted h.number h.shifted h.base h.sum h.direction l cs = cc (p.1, p.2, p.3, p.4, p.5, e, g) in
     all
@@ -149,7 +149,7 @@ made_tells L f given at place to from (Ok t) p =
     (subst (λ g. Takes L (drop at given) (whole g (drop t.next given))) (sym p.0) (subst (λ n. Takes L (drop at given) (whole f (drop n given))) (sym p.2) ([], to p.1, refl)), omega (arith, p.2))
 made_tells L f given at place to from (Err e) p = subst (λ x. Tells L given at (Err x)) (sym p.0) (λ m s t u i _. p.1 (subst Long (from m s i).1 (from m s i).0))
 
-pub closing_made : (h : Head) (b : ℕ) (l : Last) (given : List ℕ) (at : ℕ) → (b ≡ 59 → ⊥) → last_byte l ≡ b → at ≤ length given → (r : Result Told Fault) → Makes (filled h l []) at r → Tells (AtClosing h b) given at r
+pub closing_made : (h : Lead) (b : ℕ) (l : Last) (given : List ℕ) (at : ℕ) → (b ≡ 59 → ⊥) → last_byte l ≡ b → at ≤ length given → (r : Result Told Fault) → Makes (filled h l []) at r → Tells (AtClosing h b) given at r
 closing_made h b l given at other is place r p = made_tells (AtClosing h b) (filled h l []) given at place to from r p
   where
     to : Long (filled h l []) → AtClosing h b [] (filled h l [])
@@ -161,17 +161,17 @@ closing_made h b l given at other is place r p = made_tells (AtClosing h b) (fil
         (q.0.0, headed_is h m l [] q.0 (last_same m.last l (e.1 ∙ sym is)) e.0)
 
 -- a byte that ends no sequence
-pub closing_none : (h : Head) (b : ℕ) (given : List ℕ) (at : ℕ) → (b ≡ 59 → ⊥) → ((l : Last) → last_byte l ≡ b → ⊥) → Tells (AtClosing h b) given at (Err Unknown)
+pub closing_none : (h : Lead) (b : ℕ) (given : List ℕ) (at : ℕ) → (b ≡ 59 → ⊥) → ((l : Last) → last_byte l ≡ b → ⊥) → Tells (AtClosing h b) given at (Err Unknown)
 closing_none h b given at other none m s t u q e = none m.last (closing_last m.text m.last b s other q.1).1
 
-pub text_made : (h : Head) (cs given : List ℕ) (at : ℕ) → at ≤ length given → (r : Result Told Fault) → Makes (filled h U cs) at r → Tells (AtEnd h cs) given at r
+pub text_made : (h : Lead) (cs given : List ℕ) (at : ℕ) → at ≤ length given → (r : Result Told Fault) → Makes (filled h U cs) at r → Tells (AtEnd h cs) given at r
 text_made h cs given at place r p = made_tells (AtEnd h cs) (filled h U cs) given at place (λ v. ((v, refl, refl, refl, refl, refl), refl, refl, refl)) (λ m s q. (q.0.0, headed_is h m U cs q.0 q.2 q.1)) r p
 
 -- a number that is no character, or a mark after which no text goes on
-pub text_none : (h : Head) (cs : List ℕ) (c b : ℕ) → (b ≡ 58 → ⊥) → (b ≡ 117 → ⊥) → (f : Fields) (s : List ℕ) → after_character h cs (Some c) b s f → ⊥
+pub text_none : (h : Lead) (cs : List ℕ) (c b : ℕ) → (b ≡ 58 → ⊥) → (b ≡ 117 → ⊥) → (f : Fields) (s : List ℕ) → after_character h cs (Some c) b s f → ⊥
 text_none h cs c b g k f s p = elim (chosen b 58 p) [ inl q ↦ g q.0 | inr q ↦ elim (chosen b 117 q.1) [ inl r ↦ k r.0 | inr r ↦ r.1 ] ]
 
-pub text_strange : (h : Head) (cs : List ℕ) (v : Option ℕ) (b : ℕ) → ((c : ℕ) → v ≡ Some c → scalar c ≡ true → ⊥) → (f : Fields) (s : List ℕ) → after_character h cs v b s f → ⊥
+pub text_strange : (h : Lead) (cs : List ℕ) (v : Option ℕ) (b : ℕ) → ((c : ℕ) → v ≡ Some c → scalar c ≡ true → ⊥) → (f : Fields) (s : List ℕ) → after_character h cs v b s f → ⊥
 text_strange h cs None b k f s p = p
 text_strange h cs (Some c) b k f s p = elim (chosen b 58 p) [
   | inl q ↦ inner (q.1.1.0 ∷ q.1.1.1) q.1.0.0.0 (q.1.1.2 ∙ append_assoc cs (c ∷ []) (q.1.1.0 ∷ q.1.1.1))

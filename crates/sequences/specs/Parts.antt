@@ -12,7 +12,7 @@ use Rattle.dialect.specs.KittyBytes.{alternates, event, further, typed, parts, p
 use Rattle.pieces.specs.declared.found.Fault.{Fault}
 use Rattle.pieces.specs.declared.found.Fault.TheVariants.{Unknown}
 use Rattle.pieces.specs.Says.{Says}
-use Rattle.sequences.specs.declared.told.Head.{Head}
+use Rattle.sequences.specs.Leads.{Lead}
 use Rattle.sequences.specs.declared.told.Told.{Told}
 
 -- a sequence in its long form
@@ -44,37 +44,37 @@ abbrev pub AtSum : ℕ → Option ℕ → Option ℕ → List ℕ → Fields →
 AtSum n o p s f = Long f × (f.number ≡ n) × (f.shifted ≡ o) × (f.base ≡ p) × (s ≡ held f)
 
 -- the sequence begins with these parts, the direction left open
-abbrev pub Begun : Head → Fields → Type 0
+abbrev pub Begun : Lead → Fields → Type 0
 Begun h f = Long f × (f.number ≡ h.number) × (f.shifted ≡ h.shifted) × (f.base ≡ h.base) × (f.sum ≡ h.sum)
 
 -- the sequence begins with these parts
-abbrev pub Headed : Head → Fields → Type 0
+abbrev pub Headed : Lead → Fields → Type 0
 Headed h f = Long f × (f.number ≡ h.number) × (f.shifted ≡ h.shifted) × (f.base ≡ h.base) × (f.sum ≡ h.sum) × (f.direction ≡ h.direction)
 
-abbrev pub headed : ℕ → Option ℕ → Option ℕ → ℕ → Direction → Head
+abbrev pub headed : ℕ → Option ℕ → Option ℕ → ℕ → Direction → Lead
 headed n o p k d = record { number = n; shifted = o; base = p; sum = k; direction = d }
 
-abbrev pub redirected : Head → Direction → Head
+abbrev pub redirected : Lead → Direction → Lead
 redirected h d = headed h.number h.shifted h.base h.sum d
 
 -- after the modifiers and a colon
-abbrev pub AtEvent : Head → List ℕ → Fields → Type 0
+abbrev pub AtEvent : Lead → List ℕ → Fields → Type 0
 AtEvent h s f = Begun h f × (is_press f.direction ≡ false) × (s ≡ (48 + direction_number f.direction) ∷ closing f)
 
 -- after the direction
-abbrev pub AtMark : Head → List ℕ → Fields → Type 0
+abbrev pub AtMark : Lead → List ℕ → Fields → Type 0
 AtMark h s f = Headed h f × (s ≡ closing f)
 
 -- after the byte b that follows the modifiers and the direction
-abbrev pub AtClosing : Head → ℕ → List ℕ → Fields → Type 0
+abbrev pub AtClosing : Lead → ℕ → List ℕ → Fields → Type 0
 AtClosing h b s f = Headed h f × (b ∷ s ≡ closing f)
 
 -- at the next character of the text, after those of cs
-abbrev pub AtText : Head → List ℕ → List ℕ → Fields → Type 0
+abbrev pub AtText : Lead → List ℕ → List ℕ → Fields → Type 0
 AtText h cs s f = Headed h f × ((c : ℕ) × (ds : List ℕ) × (f.text ≡ cs ++ (c ∷ ds)) × (s ≡ decimal c ++ (further ds ++ (last_byte f.last ∷ []))))
 
 -- at the end, where the text was cs
-abbrev pub AtEnd : Head → List ℕ → List ℕ → Fields → Type 0
+abbrev pub AtEnd : Lead → List ℕ → List ℕ → Fields → Type 0
 AtEnd h cs s f = Headed h f × (f.text ≡ cs) × (f.last ≡ U) × (s ≡ [])
 
 abbrev pub choose : Bool → Type 0 → Type 0 → Type 0
@@ -99,18 +99,18 @@ after_sum n o p None b s f = ⊥
 after_sum n o p (Some k) b s f = choose (b == 58) (AtEvent (headed n o p (k - 1) Press) s f) (AtClosing (headed n o p (k - 1) Press) b s f)
 
 -- after the digit of a direction
-abbrev pub after_event : Head → ℕ → List ℕ → Fields → Type 0
+abbrev pub after_event : Lead → ℕ → List ℕ → Fields → Type 0
 after_event h b s f = Begun h f × (is_press f.direction ≡ false) × (48 + direction_number f.direction ≡ b) × (s ≡ closing f)
 
-abbrev pub after_character : Head → List ℕ → Option ℕ → ℕ → List ℕ → Fields → Type 0
+abbrev pub after_character : Lead → List ℕ → Option ℕ → ℕ → List ℕ → Fields → Type 0
 after_character h cs None b s f = ⊥
 after_character h cs (Some c) b s f = choose (b == 58) (AtText h (cs ++ (c ∷ [])) s f) (choose (b == 117) (AtEnd h (cs ++ (c ∷ [])) s f) ⊥)
 
 -- the parts before the text are in range
-abbrev pub Started : Head → Type 0
+abbrev pub Started : Lead → Type 0
 Started h = (h.number ≤ 1114111) × Coded h.shifted × Coded h.base × (h.sum ≤ 255)
 
-abbrev pub filled : Head → Last → List ℕ → Fields
+abbrev pub filled : Lead → Last → List ℕ → Fields
 filled h l cs = parted h.number h.shifted h.base h.sum h.direction l cs
 
 abbrev pub Tells : (List ℕ → Fields → Type 0) → List ℕ → ℕ → Result Told Fault → Type 0

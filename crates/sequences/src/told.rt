@@ -1,4 +1,7 @@
 // What the parts of a reader of sequences pass on.
+ghost use Rattle.std.specs.Prelude.{◌≡◌, ◌≤◌, true};
+ghost use Rattle.report.specs.Sound.{coded};
+
 use report::ending::Direction;
 use report::sequence::Sequence;
 
@@ -17,4 +20,8 @@ pub struct Head {
     pub base: Option<u32>,
     pub sum: u8,
     pub direction: Direction,
+    ghost number_fits: { number ≤ 1114111 },
+    ghost shifted_fits: { coded shifted ≡ true },
+    ghost base_fits: { coded base ≡ true },
+    ghost sum_fits: { sum ≤ 255 },
 }

@@ -1,4 +1,5 @@
 // The pieces of a frame.
+ghost use Rattle.std.specs.Prelude.{◌≤◌};
 
 // Which numbers of four bytes are wanted: a code, a code or its absence, a character, a character other than ESC.
 #[derive(Clone, Copy)]
@@ -22,4 +23,12 @@ pub enum Body {
     Text,
     Answer,
     Sequence(u8),
+}
+
+// A frame of a sequence, and how many characters its length tells.
+#[derive(Clone, Copy)]
+pub struct Frame<'a> {
+    pub(crate) bytes: &'a [u8],
+    pub(crate) count: u8,
+    ghost few: { count ≤ 32 },
 }

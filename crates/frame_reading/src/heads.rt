@@ -4,6 +4,7 @@ ghost use Rattle.frame_reading.specs.declared.found.Body.{Body as Held};
 ghost use Rattle.frame_reading.specs.Heads.{Fits, length_of, kind_of, SaysHead};
 
 use crate::found::Body;
+use frames::frames::FrameKind;
 use pieces::found::Fault;
 use pieces::octets::octet;
 
@@ -11,25 +12,23 @@ use pieces::octets::octet;
 fn body_of(length: u8) -> Option<Body>
     ensures { MatchOption result ((b : Held) → Fits b → length_of b ≢ length) (λ b. Fits b × (length_of b ≡ length)) }
 {
-    if length == 6 {
-        Some(Body::Text)
-    } else if length == 3 {
-        Some(Body::Answer)
-    } else if 18 <= length && length <= 146 && (length - 18) % 4 == 0 {
-        Some(Body::Sequence((length - 18) / 4))
-    } else {
-        None
+    match length {
+        3 => Some(Body::Answer),
+        6 => Some(Body::Text),
+        18..=146 if (length - 18) % 4 == 0 => Some(Body::Sequence((length - 18) / 4)),
+        _ => None,
     }
 }
 
 fn kind_of(body: Body) -> u8
     ensures { result ≡ kind_of body }
 {
-    match body {
-        Body::Text => 1,
-        Body::Answer => 3,
-        Body::Sequence(_) => 2,
-    }
+    let kind = match body {
+        Body::Text => FrameKind::Text,
+        Body::Answer => FrameKind::Answer,
+        Body::Sequence(_) => FrameKind::Sequence,
+    };
+    kind as u8
 }
 
 pub(crate) fn read_head(given: &[u8]) -> Result<Body, Fault>

@@ -2,8 +2,8 @@
 ghost use Rattle.frames.specs.Framing.{frame_bytes};
 ghost use Rattle.pieces.specs.Reports.{Spoken, Sees};
 
-use crate::bodies::{read_flags, read_parts, read_text};
-use crate::found::Body;
+use crate::bodies::{read_flags, read_text};
+use crate::found::{Body, Frame};
 use crate::heads::read_head;
 use pieces::found::{Fault, Seen};
 use report::report::Report;
@@ -16,7 +16,11 @@ pub fn find(given: &[u8]) -> Result<Seen, Fault>
         Body::Text => read_text(given, 4),
         Body::Answer => read_flags(given, 4),
         Body::Sequence(count) => {
-            let told = read_parts(given, 4, count)?;
+            let told = Frame {
+                bytes: given,
+                count,
+            }
+            .parts(4)?;
             Ok(Seen {
                 report: Report::Sequence(told.sequence),
                 length: told.next,

@@ -11,12 +11,6 @@ just_three g at e = view_3 g at (omega arith) ∙ ap (λ x. get_or g at 0 ∷ ge
 low_bytes : (g : List ℕ) (at : ℕ) → ((i : ℕ) → get_or g i 0 < 256) → (i : ℕ) → get_or (drop at g) i 0 < 256
 low_bytes g at f i = subst (λ x. x < 256) (sym (get_or-drop at g i 0)) (f (at + i))
 
-plus_none : (a b c : ℕ) → a + b * 256 + c * 65536 ≡ a + b * 256 + c * 65536 + 0 * 16777216
-plus_none a b c = omega arith
-
-plus_all : (a b c : ℕ) → a + b * 256 + c * 65536 + 4278190080 ≡ a + b * 256 + c * 65536 + 255 * 16777216
-plus_all a b c = omega arith
-
 pub returns-then-left-lt3 : goal.returns-then-left-lt3
 returns-then-left-lt3 c =
     let r = c.args.rule in
@@ -34,7 +28,7 @@ returns-then-allowed c =
     let x : get_or g at 0 < 256 = omega (arith, c.type_inv.bytes at) in
     let y : get_or g (at + 1) 0 < 256 = omega (arith, c.type_inv.bytes (at + 1)) in
     let z : get_or g (at + 2) 0 < 256 = omega (arith, c.type_inv.bytes (at + 2)) in
-    subst (λ v. Takes (Quads r) v part) (sym (just_three g at (omega arith))) (quad_3 r a b d x y z 0 (omega arith) (ap (ok r) (sym (plus_none a b d)) ∙ sym c.allowed.ensures ∙ c.if-allowed.true))
+    subst (λ v. Takes (Quads r) v part) (sym (just_three g at (omega arith))) (quad_3 r a b d x y z 0 (omega arith) (ap (ok r) (sym c.with_high.ensures) ∙ sym c.allowed.ensures ∙ c.if-allowed.true))
 
 pub returns-then-allowed-2 : goal.returns-then-allowed-2
 returns-then-allowed-2 c =
@@ -47,10 +41,10 @@ returns-then-allowed-2 c =
     let x : get_or g at 0 < 256 = omega (arith, c.type_inv.bytes at) in
     let y : get_or g (at + 1) 0 < 256 = omega (arith, c.type_inv.bytes (at + 1)) in
     let z : get_or g (at + 2) 0 < 256 = omega (arith, c.type_inv.bytes (at + 2)) in
-    subst (λ v. Takes (Quads r) v part) (sym (just_three g at (omega arith))) (quad_3 r a b d x y z 255 (omega arith) (ap (ok r) (sym (plus_all a b d)) ∙ sym c.allowed-then-left-lt4.ensures ∙ c.if-allowed-2.true))
+    subst (λ v. Takes (Quads r) v part) (sym (just_three g at (omega arith))) (quad_3 r a b d x y z 255 (omega arith) (ap (ok r) (sym c.with_high-then-left-eq3.ensures) ∙ sym c.allowed-then-left-eq3.ensures ∙ c.if-allowed-2.true))
 
-pub returns-then-left-lt4 : goal.returns-then-left-lt4
-returns-then-left-lt4 c =
+pub returns-then-left-eq3 : goal.returns-then-left-eq3
+returns-then-left-eq3 c =
     let g = c.args.bytes.now in
     let at = c.args.at in
     let r = c.args.rule in
@@ -60,7 +54,9 @@ returns-then-left-lt4 c =
     let x : get_or g at 0 < 256 = omega (arith, c.type_inv.bytes at) in
     let y : get_or g (at + 1) 0 < 256 = omega (arith, c.type_inv.bytes (at + 1)) in
     let z : get_or g (at + 2) 0 < 256 = omega (arith, c.type_inv.bytes (at + 2)) in
-    subst (λ v. Takes (Quads r) v nothing) (sym (just_three g at (omega arith))) (quad_none_3 r a b d x y z (sym c.allowed.ensures ∙ c.if-allowed.false) (sym c.allowed-then-left-lt4.ensures ∙ c.if-allowed-2.false))
+    let low : a + b * 256 + d * 65536 ≡ c.with_high.result = omega (arith, c.with_high.ensures) in
+    let high : a + b * 256 + d * 65536 + 4278190080 ≡ c.with_high-then-left-eq3.result = omega (arith, c.with_high-then-left-eq3.ensures) in
+    subst (λ v. Takes (Quads r) v nothing) (sym (just_three g at (omega arith))) (quad_none_3 r a b d x y z (ap (ok r) low ∙ sym c.allowed.ensures ∙ c.if-allowed.false) (ap (ok r) high ∙ sym c.allowed-then-left-eq3.ensures ∙ c.if-allowed-2.false))
 
 pub returns-then-allowed-3 : goal.returns-then-allowed-3
 returns-then-allowed-3 c =
@@ -75,7 +71,7 @@ returns-then-allowed-3 c =
     let z : get_or g (at + 2) 0 < 256 = omega (arith, c.type_inv.bytes (at + 2)) in
     let f = get_or g (at + 3) 0 in
     let w : get_or g (at + 3) 0 < 256 = omega (arith, c.type_inv.bytes (at + 3)) in
-    (subst (λ v. Takes (Quads r) v (whole (a + b * 256 + d * 65536 + f * 16777216) (drop (at + 4) g))) (sym (view_4 g at (omega arith))) (quad_whole r a b d x y z f (drop (at + 4) g) w (sym c.allowed-2.ensures ∙ c.if-allowed-3.true)), omega arith)
+    (subst (λ v. Takes (Quads r) v (whole c.with_high-value.result (drop (at + 4) g))) (sym (view_4 g at (omega arith))) (subst (λ n. Takes (Quads r) (a ∷ b ∷ d ∷ f ∷ drop (at + 4) g) (whole n (drop (at + 4) g))) (sym c.with_high-value.ensures) (quad_whole r a b d x y z f (drop (at + 4) g) w (ap (ok r) (sym c.with_high-value.ensures) ∙ sym c.allowed-2.ensures ∙ c.if-allowed-3.true))), omega arith)
 
 pub returns-else-allowed-3 : goal.returns-else-allowed-3
 returns-else-allowed-3 c =
@@ -90,4 +86,4 @@ returns-else-allowed-3 c =
     let z : get_or g (at + 2) 0 < 256 = omega (arith, c.type_inv.bytes (at + 2)) in
     let f = get_or g (at + 3) 0 in
     let w : get_or g (at + 3) 0 < 256 = omega (arith, c.type_inv.bytes (at + 3)) in
-    subst (λ v. Takes (Quads r) v nothing) (sym (view_4 g at (omega arith))) (quad_none_4 r a b d x y z f (drop (at + 4) g) w (sym c.allowed-2.ensures ∙ c.if-allowed-3.false))
+    subst (λ v. Takes (Quads r) v nothing) (sym (view_4 g at (omega arith))) (quad_none_4 r a b d x y z f (drop (at + 4) g) w (ap (ok r) (sym c.with_high-value.ensures) ∙ sym c.allowed-2.ensures ∙ c.if-allowed-3.false))

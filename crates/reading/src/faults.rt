@@ -5,20 +5,23 @@ ghost use Rattle.reading.specs.Faults.{fault_number, read_fault};
 use pieces::found::Fault;
 
 // `Short` where the bytes only begin a report, `Unknown` where no report begins so, `Narrow` where its text has no room.
-#[derive(Clone, Copy)]
+#[derive(Clone, Copy, Debug, PartialEq, Eq)]
 pub enum ReadFault {
     Short,
     Unknown,
     Narrow,
 }
 
-pub fn fault_number(fault: ReadFault) -> u8
-    ensures { result ≡ fault_number fault }
-{
-    match fault {
-        ReadFault::Short => 11,
-        ReadFault::Unknown => 12,
-        ReadFault::Narrow => 13,
+impl ReadFault {
+    // The number of the refusal.
+    pub fn number(self) -> u8
+        ensures { result ≡ fault_number self }
+    {
+        match self {
+            ReadFault::Short => 11,
+            ReadFault::Unknown => 12,
+            ReadFault::Narrow => 13,
+        }
     }
 }
 

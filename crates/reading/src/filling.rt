@@ -1,4 +1,7 @@
 // Puts the text of a report to the front of the caller's row.
+ghost use Rattle.std.specs.Prelude.{◌≡◌, IfErr};
+ghost use Rattle.std.specs.Result.{is_ok};
+ghost use Rattle.reading.specs.declared.faults.ReadFault.TheVariants.{Narrow};
 ghost use Rattle.report.specs.Meanings.{characters, means};
 ghost use Rattle.reading.specs.Reading.{text_of};
 ghost use Rattle.reading.specs.Filling.{Filled, Stores};
@@ -8,26 +11,28 @@ use pieces::found::{Fault, Seen};
 use report::report::Report;
 use report::text::Text;
 
-fn put_codes(codes: &Text, row: &mut [u32]) -> bool
-    ensures { Filled (characters codes.now) row.old row.new result }
+fn put_codes(codes: &Text, row: &mut [u32]) -> Result<(), ReadFault>
+    ensures filled { Filled (characters codes.now) row.old row.new (is_ok result) }
+    ensures fault { IfErr result (λ e. e ≡ Narrow) }
 {
     let codes = codes.as_slice();
     if row.len() < codes.len() {
-        return false;
+        return Err(ReadFault::Narrow);
     }
-    for i in 0..codes.len() {
-        row[i] = codes[i] as u32;
+    for (i, c) in codes.iter().enumerate() {
+        row[i] = *c as u32;
     }
-    true
+    Ok(())
 }
 
-// Whether the text fits; if not, nothing is put.
-fn put_text(report: &Report, row: &mut [u32]) -> bool
-    ensures { Filled (text_of (means report.now)) row.old row.new result }
+// Puts the text where it fits; if not, nothing is put.
+fn put_text(report: &Report, row: &mut [u32]) -> Result<(), ReadFault>
+    ensures filled { Filled (text_of (means report.now)) row.old row.new (is_ok result) }
+    ensures fault { IfErr result (λ e. e ≡ Narrow) }
 {
     match report {
         Report::Sequence(s) => put_codes(&s.text, row),
-        Report::Text(_) | Report::Old(_) | Report::Answer(_) => true,
+        Report::Text(_) | Report::Old(_) | Report::Answer(_) => Ok(()),
     }
 }
 
@@ -36,9 +41,6 @@ pub fn fill(found: Result<Seen, Fault>, text: &mut [u32]) -> Result<Seen, ReadFa
     ensures { Stores found text.old text.new result }
 {
     let seen = found?;
-    if put_text(&seen.report, text) {
-        Ok(seen)
-    } else {
-        Err(ReadFault::Narrow)
-    }
+    put_text(&seen.report, text)?;
+    Ok(seen)
 }

@@ -40,21 +40,19 @@ fn read_flags(bytes: &[u8], at: usize) -> Result<Seen, Fault>
     ensures { Sees AtFlags bytes.now at result }
 {
     let e = digits(bytes, at, Range::Flags)?;
-    match e.value {
-        None => Err(Fault::Unknown),
-        Some(n) => {
-            if e.mark != b'u' {
-                return Err(Fault::Unknown);
-            }
-            match KittyKeyboardFlags::from_bits(n as u16) {
-                None => Err(Fault::Unknown),
-                Some(flags) => Ok(Seen {
-                    report: Report::Answer(flags),
-                    length: e.next,
-                }),
-            }
-        }
+    let Some(n) = e.value else {
+        return Err(Fault::Unknown);
+    };
+    if e.mark != b'u' {
+        return Err(Fault::Unknown);
     }
+    let Some(flags) = KittyKeyboardFlags::from_bits(n as u16) else {
+        return Err(Fault::Unknown);
+    };
+    Ok(Seen {
+        report: Report::Answer(flags),
+        length: e.next,
+    })
 }
 
 // The first clear report of the given bytes, and how many bytes it took.

@@ -1,12 +1,13 @@
 // A host's requests, read one byte at a time.
 #![tactic(auto)]
 
-ghost use Rattle.std.specs.Prelude.{◌≡◌, ℕ, List, [], ◌∷◌, ◌++◌};
+ghost use Rattle.std.specs.Prelude.{◌≡◌, ℕ, List, [], ◌∷◌, ◌++◌, MatchOption};
+ghost use Rattle.request.specs.declared.State.{State};
 ghost use Rattle.request.specs.Steps.{more, stands as standing, ends as ending, spoiled, step};
 ghost use Rattle.request.specs.Reading.{Ended, Hears, OneWay, ended};
 
 // What a host asks for: flags, a count, flags with a mode, or the setting in force.
-#[derive(Clone, Copy)]
+#[derive(Clone, Copy, Debug, PartialEq, Eq)]
 pub enum Request {
     Push(u16),
     Pop(u16),
@@ -15,18 +16,16 @@ pub enum Request {
 }
 
 // The byte goes on with no request.
-#[derive(Clone, Copy)]
+#[derive(Clone, Copy, Debug, PartialEq, Eq)]
 pub enum Fault {
-    Misfit,
+    Misfit = 12,
 }
 
 impl Fault {
     pub fn number(self) -> u8
         ensures { result ≡ 12 }
     {
-        match self {
-            Fault::Misfit => 12,
-        }
+        self as u8
     }
 }
 
@@ -47,15 +46,12 @@ enum State {
 fn with_digit(n: Option<u16>, byte: u8) -> Option<u16>
     ensures { result ≡ more n byte }
 {
-    if byte < b'0' || byte > b'9' {
+    if !byte.is_ascii_digit() {
         return None;
     }
-    let wide = n.unwrap_or(0) as u32 * 10 + (byte - b'0') as u32;
-    if wide > 65535 {
-        None
-    } else {
-        Some(wide as u16)
-    }
+    n.unwrap_or(0)
+        .checked_mul(10)?
+        .checked_add(u16::from(byte - b'0'))
 }
 
 #[derive(Drop)]
@@ -102,6 +98,22 @@ impl Reader {
         Err(Fault::Misfit)
     }
 
+    // One digit more of a number, in the state that holds it; any other byte is a misfit.
+    fn digit<F: FnOnce(Option<u16>) -> State>(
+        &mut self,
+        n: Option<u16>,
+        byte: u8,
+        holds: F,
+    ) -> Result<Option<Request>, Fault>
+        requires { F.IsAlwaysCallable holds }
+        ensures { MatchOption (more n byte) ((self.new.state, result) ≡ spoiled byte) (λ m. (state : State) × F.post holds (Some m) state × ((self.new.state, result) ≡ standing state)) }
+    {
+        match with_digit(n, byte) {
+            Some(m) => self.stands(holds(Some(m))),
+            None => self.misfit(byte),
+        }
+    }
+
     // By the state and the byte together.
     fn step(&mut self, byte: u8) -> Result<Option<Request>, Fault>
         ensures { (self.new.state, result) ≡ step self.old.state byte }
@@ -119,22 +131,10 @@ impl Reader {
             (State::Set(n), b'u') => self.ends(Request::Set(n.unwrap_or(0), 1)),
             (State::Set(n), b';') => self.stands(State::Mode(n.unwrap_or(0), None)),
             (State::Mode(f, n), b'u') => self.ends(Request::Set(f, n.unwrap_or(1))),
-            (State::Push(n), _) => match with_digit(n, byte) {
-                Some(m) => self.stands(State::Push(Some(m))),
-                None => self.misfit(byte),
-            },
-            (State::Pop(n), _) => match with_digit(n, byte) {
-                Some(m) => self.stands(State::Pop(Some(m))),
-                None => self.misfit(byte),
-            },
-            (State::Set(n), _) => match with_digit(n, byte) {
-                Some(m) => self.stands(State::Set(Some(m))),
-                None => self.misfit(byte),
-            },
-            (State::Mode(f, n), _) => match with_digit(n, byte) {
-                Some(m) => self.stands(State::Mode(f, Some(m))),
-                None => self.misfit(byte),
-            },
+            (State::Push(n), _) => self.digit(n, byte, State::Push),
+            (State::Pop(n), _) => self.digit(n, byte, State::Pop),
+            (State::Set(n), _) => self.digit(n, byte, State::Set),
+            (State::Mode(f, n), _) => self.digit(n, byte, |m| State::Mode(f, m)),
             _ => self.misfit(byte),
         }
     }

@@ -7,6 +7,9 @@ ghost use Rattle.wire.specs.Moves.{fits, after_put, moves, filled};
 pub mod page;
 pub mod ring;
 
+// The most bytes that one put takes.
+const MOST: usize = 512;
+
 pub trait Wire {
     // The bytes waiting, oldest first.
     ghost waiting: { Self → List ℕ };

@@ -6,13 +6,14 @@ use Rattle.settings.specs.declared.settings.Screen.{Screen}
 use Rattle.settings.specs.declared.settings.Screen.TheVariants.{Main, Alternate}
 use Rattle.settings.specs.Stack.{Stacks}
 
+-- the numbers of the settings held
 abbrev pub stack_of : Row → List ℕ
-stack_of r = take r.held r.settings
-
-abbrev pub stacks_of : Settings → Stacks
-stacks_of s = record { rows = map stack_of s.rows; shown = s.shown }
+stack_of r = map (λ f. f.bits) (take r.held r.settings)
 
 -- the main screen is 0, the alternate one 1
 abbrev pub screen_number : Screen → ℕ
 screen_number Main = 0
 screen_number Alternate = 1
+
+abbrev pub stacks_of : Settings → Stacks
+stacks_of s = record { rows = map stack_of s.rows; shown = screen_number s.shown }

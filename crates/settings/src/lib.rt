@@ -2,5 +2,4 @@
 #![tactic(auto)]
 
 pub mod row;
-pub mod screens;
 pub mod settings;

@@ -1,5 +1,5 @@
 -- One call of a list, and one call more.
-use Rattle.std.proofs.Common.{◌≡◌, ℕ, ◌+◌, ◌-◌, ◌<◌, ◌≤◌, min, List, [], ◌∷◌, ◌++◌, map, length, get_or, take, drop, set, Ok, Result, sym, ap, ◌∙◌, subst, arith, length-append, length-take}
+use Rattle.std.proofs.Common.{◌≡◌, ℕ, ◌+◌, ◌-◌, ◌<◌, ◌≤◌, min, List, [], ◌∷◌, ◌++◌, length, get_or, take, drop, set, Ok, Result, sym, ap, ◌∙◌, subst, arith, length-append, length-take}
 use Rattle.std.specs.List.{flat_map}
 use lib.Seq.{take-append-add, drop-append-add}
 use Rattle.std.proofs.lemmas.List.{length-take-le, take-append-le, drop-append-le, take_more, take_more_set, drop-set-lt, drop-drop, map_push, flat_map_more}
@@ -34,7 +34,7 @@ drained v w before part tail after r room whole front s g same =
     record {
       steps = subst (λ bs. Steps v (plain.Drain (min room (length before))) (Done r) bs w) (sym moved) (subst (λ x. Steps v (plain.Drain x) (Done r) (take r after) w) front s);
       reading = subst (λ bs. GoesOn v (plain.Drain (min room (length before))) (Done r) bs w) (sym moved) (subst (λ x. GoesOn v (plain.Drain x) (Done r) (take r after) w) front g);
-      rest = drop-append-le r after tail within ∙ ap (λ l. l ++ tail) same ∙ sym (drop-append-le r part tail (omega arith)) ∙ ap (drop r) whole;
+      rest = cc (drop-append-le r after tail within, drop-append-le r part tail (omega arith));
       room = omega arith;
     }
 
@@ -68,7 +68,7 @@ going_more empty u v w calls i d answers₀ answers r at n buffer₀ buffer part
     let few : n ≤ length part = subst (λ x. x ≤ length part) (sym is) s.room in
     let fits : n ≤ length after = omega arith in
     let moved : take (at + n) (take at buffer ++ (after ++ tail)) ≡ take at buffer ++ take n after =
-    ap (λ x. take (x + n) (take at buffer ++ (after ++ tail))) (sym front) ∙ take-append-add (take at buffer) (after ++ tail) n ∙ ap (λ l. take at buffer ++ l) (take-append-le n after tail fits) in
+    cc (take-append-add (take at buffer) (after ++ tail) n, take-append-le n after tail fits) in
     record {
       terms = s.steps.terms ∙ k.terms;
       reading = λ e.
@@ -78,13 +78,11 @@ going_more empty u v w calls i d answers₀ answers r at n buffer₀ buffer part
           record {
             history = h ++ t ∷ [];
             made = subst (λ l. Made (length buffer₀) l (h ++ t ∷ [])) (sym (take_more calls i d in-calls)) (made_more (length buffer₀) (take i calls) h c t p.made (ap (λ x. call_of x c) (room ∙ ap (λ x. length buffer₀ - x) (sym drained))));
-            answers_are = map_push (λ x. x.reply) h t ∙ ap (λ l. l ++ counted r ∷ []) p.answers_are ∙ sym (map_push counted (take i answers) r) ∙ ap (map counted) (sym (take_more_set answers i r in-answers));
-            bytes_are = sym (flat_map_more (λ x. x.bytes) [] h t) ∙ ap (λ l. l ++ moved_by c r after) p.bytes_are ∙ ap (λ x. take at buffer ++ take x after) (sym is) ∙ sym moved;
+            answers_are = cc (map_push (λ x. x.reply) h t, p.answers_are, map_push counted (take i answers) r, take_more_set answers i r in-answers);
+            bytes_are = cc (flat_map_more (λ x. x.bytes) [] h t, p.bytes_are);
             reading = s.reading h p.reading;
           };
-      answers_rest = drop-set-lt (i + 1) answers i r (omega arith) ∙ sym (drop-drop 1 i answers) ∙ ap (drop 1) k.answers_rest ∙ drop-drop 1 i answers₀;
-      buffer_rest =
-          ap (λ x. drop (x + n) (take at buffer ++ (after ++ tail))) (sym front) ∙ drop-append-add (take at buffer) (after ++ tail) n ∙ drop-append-le n after tail fits
-          ∙ ap (λ l. l ++ tail) (ap (λ x. drop x after) is ∙ s.rest ∙ ap (λ x. drop x part) (sym is)) ∙ sym (drop-append-le n part tail few) ∙ ap (drop n) whole ∙ ap (drop n) k.buffer_rest ∙ drop-drop n at buffer₀;
+      answers_rest = cc (drop-set-lt (i + 1) answers i r (omega arith), drop-drop 1 i answers, drop-drop 1 i answers₀);
+      buffer_rest = cc (drop-append-add (take at buffer) (after ++ tail) n, drop-append-le n after tail fits, drop-append-le n part tail few, drop-drop n at buffer, drop-drop n at buffer₀);
       within = rw length-append (rw length-append (omega arith));
     }

@@ -25,12 +25,6 @@ pub enum Call<'a> {
     Drain(usize),
 }
 
-fn smaller(a: usize, b: usize) -> usize
-    ensures { result ≡ min a b }
-{
-    if a < b { a } else { b }
-}
-
 // Makes one call, and answers its count; what a drain hands over stands at the front of the buffer, whose rest
 // stays.
 pub fn make<'a, W: Wire, L: Layout, D: Dialect>(
@@ -38,33 +32,21 @@ pub fn make<'a, W: Wire, L: Layout, D: Dialect>(
     call: &'a Call<'a>,
     buffer: &mut [u8],
 ) -> Result<usize, Refusal>
-    ensures steps { Steps (view_of W.waiting W.capacity L.base D.bytes seat.old) (call_of (length buffer.old) call.now) (counted result) (moved_by call.now result buffer.new) (view_of W.waiting W.capacity L.base D.bytes seat.new) }
-    ensures reading { GoesOn (view_of W.waiting W.capacity L.base D.bytes seat.old) (call_of (length buffer.old) call.now) (counted result) (moved_by call.now result buffer.new) (view_of W.waiting W.capacity L.base D.bytes seat.new) }
+    ensures steps { Steps (view_of W.Wire L.Layout D.Dialect seat.old) (call_of (length buffer.old) call.now) (counted result) (moved_by call.now result buffer.new) (view_of W.Wire L.Layout D.Dialect seat.new) }
+    ensures reading { GoesOn (view_of W.Wire L.Layout D.Dialect seat.old) (call_of (length buffer.old) call.now) (counted result) (moved_by call.now result buffer.new) (view_of W.Wire L.Layout D.Dialect seat.new) }
     ensures rest { drop (handedBy call.now result) buffer.new ≡ drop (handedBy call.now result) buffer.old }
     ensures room { handedBy call.now result ≤ length buffer.old }
 {
     match call {
         Call::Key(event) => seat.key(event),
-        Call::Push(flags) => {
-            seat.push(*flags)?;
-            Ok(0)
-        }
-        Call::Pop(n) => {
-            seat.pop(*n)?;
-            Ok(0)
-        }
-        Call::Set(flags, mode) => {
-            seat.set(*flags, *mode)?;
-            Ok(0)
-        }
-        Call::Screen(screen) => {
-            seat.screen(*screen)?;
-            Ok(0)
-        }
+        Call::Push(flags) => seat.push(*flags).map(|()| 0),
+        Call::Pop(n) => seat.pop(*n).map(|()| 0),
+        Call::Set(flags, mode) => seat.set(*flags, *mode).map(|()| 0),
+        Call::Screen(screen) => seat.screen(*screen).map(|()| 0),
         Call::Query => seat.query(),
         Call::Drain(room) => {
-            let n = smaller(*room, buffer.len());
-            Ok(seat.drain(&mut buffer[0..n]))
+            let n = buffer.len().min(*room);
+            Ok(seat.drain(&mut buffer[..n]))
         }
     }
 }
@@ -104,17 +86,18 @@ pub fn replay<'a, W: Wire, L: Layout, D: Dialect>(
     buffer: &mut [u8],
 ) -> Finished<W, L, D>
     ensures made { result.made ≡ min (length calls.now) (length answers.old) }
-    ensures terms { (view_of W.waiting W.capacity L.base D.bytes result.seat).terms ≡ record { base = L.base layout; bytes = D.bytes dialect; capacity = W.capacity wire } }
-    ensures reading { W.waiting wire ≡ [] → Replayed (view_of W.waiting W.capacity L.base D.bytes result.seat) (length buffer.old) (take result.made calls.now) (take result.made answers.new) (take result.drained buffer.new) }
+    ensures terms { (view_of W.Wire L.Layout D.Dialect result.seat).terms ≡ record { base = L.base layout; bytes = D.bytes dialect; capacity = W.capacity wire } }
+    ensures reading { W.waiting wire ≡ [] → Replayed (view_of W.Wire L.Layout D.Dialect result.seat) (length buffer.old) (take result.made calls.now) (take result.made answers.new) (take result.drained buffer.new) }
     ensures answers_rest { drop result.made answers.new ≡ drop result.made answers.old }
     ensures buffer_rest { drop result.drained buffer.new ≡ drop result.drained buffer.old }
 {
     let mut seat = Seat::open(wire, layout, dialect);
-    let made = smaller(calls.len(), answers.len());
+    let made = calls.len().min(answers.len());
     let mut drained = 0;
-    for i in 0..made {
-        let answer = make(&mut seat, &calls[i], &mut buffer[drained..]);
-        drained += handed(&calls[i], answer);
+    for (i, call) in calls[..made].iter().enumerate() {
+        let answer = make(&mut seat, call, &mut buffer[drained..]);
+        drained += handed(call, answer);
+        // Written by its place: what is written through a zip with iter_mut is not known afterwards.
         answers[i] = answer;
     }
     Finished {

@@ -1,2 +1,3 @@
+pub mod Modes
 pub mod Refusals
 pub mod Seats

@@ -1,6 +1,9 @@
 -- What a seat shows, and how its answers count as replies.
-use Rattle.std.specs.Prelude.{◌≡◌, ℕ, ◌-◌, Bool, cond, List, ◌++◌, length, Ok, Err, Result, nat_le}
+use Rattle.std.specs.Prelude.{◌≡◌, ℕ, ◌-◌, Bool, cond, ◌++◌, length, Ok, Err, Result, nat_le}
 use Rattle.report.specs.Meanings.{Meaning}
+use Rattle.wire.specs.declared.Wire as wire
+use Rattle.layout.specs.declared.Layout as layout
+use Rattle.dialect.specs.declared.dialect.Dialect as dialect
 use Rattle.settings.specs.Rows.{stacks_of}
 use Rattle.plain_seat.specs.Plain.{Reply, Done, Declined}
 use Rattle.plain_seat.specs.Reading.{View}
@@ -8,11 +11,12 @@ use Rattle.seat.specs.declared.refusal.Refusal.{Refusal}
 use Rattle.seat.specs.declared.seat.Seat.{Seat}
 use Rattle.seat.specs.Refusals.{refusal_number, refusal_place}
 
-abbrev pub view_of : {W L D : Type 0} → (W → List ℕ) → (W → ℕ) → (L → ℕ → ℕ) → (D → Meaning → List ℕ) → Seat W L D → View
-view_of waiting capacity base bytes s =
+-- what the wire, the layout and the dialect of a seat say of it
+abbrev pub view_of : {W L D : Type 0} → wire.Ghosts W → layout.Ghosts L → dialect.Ghosts D → Seat W L D → View
+view_of w l d s =
     record {
-      terms = record { base = base s.layout; bytes = bytes s.dialect; capacity = capacity s.wire };
-      waiting = waiting s.wire;
+      terms = record { base = l.base s.layout; bytes = d.bytes s.dialect; capacity = w.capacity s.wire };
+      waiting = w.waiting s.wire;
       stacks = stacks_of s.settings;
     }
 

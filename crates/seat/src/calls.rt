@@ -9,6 +9,7 @@ ghost use Rattle.plain_seat.specs.Reading.{OneReading, Steps, GoesOn};
 ghost use Rattle.seat.specs.declared.refusal.Refusal.TheVariants.{Flags as Unlisted};
 ghost use Rattle.seat.specs.Seats.{view_of, counted, plain_reply, Sent};
 
+use crate::mode::Mode;
 use crate::refusal::Refusal;
 use crate::seat::Seat;
 use dialect::dialect::Dialect;
@@ -25,29 +26,20 @@ use wire::Wire;
 fn flags_of(flags: u32) -> Result<KittyKeyboardFlags, Refusal>
     ensures { MatchResult result (λ f. (f.bits ≡ flags) × (flags ≤ 31)) (λ e. (e ≡ Unlisted) × (32 ≤ flags)) }
 {
-    if flags > 31 {
-        return Err(Refusal::Flags);
-    }
-    match KittyKeyboardFlags::from_bits(flags as u16) {
-        Some(known) => Ok(known),
-        None => Err(Refusal::Flags),
-    }
-}
-
-fn blank() -> [u8; 512]
-    ensures { length result ≡ 512 }
-{
-    [0; 512]
+    u16::try_from(flags)
+        .ok()
+        .and_then(KittyKeyboardFlags::from_bits)
+        .ok_or(Refusal::Flags)
 }
 
 impl<W: Wire, L: Layout, D: Dialect> Seat<W, L, D> {
     // Hands a report to the wire, whole or not at all.
     fn send(&mut self, report: &Report) -> Result<usize, Refusal>
-        ensures { Sent (view_of W.waiting W.capacity L.base D.bytes self.old) (means report.now) result (view_of W.waiting W.capacity L.base D.bytes self.new) }
+        ensures { Sent (view_of W.Wire L.Layout D.Dialect self.old) (means report.now) result (view_of W.Wire L.Layout D.Dialect self.new) }
     {
-        let mut room = blank();
+        let mut room = [0; 512];
         let n = self.dialect.write(report, &mut room);
-        if self.wire.put(&room[0..n]) {
+        if self.wire.put(&room[..n]) {
             Ok(n)
         } else {
             Err(Refusal::NoRoom)
@@ -60,7 +52,7 @@ impl<W: Wire, L: Layout, D: Dialect> Seat<W, L, D> {
         ensures layout { result.layout ≡ layout }
         ensures dialect { result.dialect ≡ dialect }
         ensures stacks { stacks_of result.settings ≡ fresh }
-        ensures reading { W.waiting wire ≡ [] → OneReading (view_of W.waiting W.capacity L.base D.bytes result) [] }
+        ensures reading { W.waiting wire ≡ [] → OneReading (view_of W.Wire L.Layout D.Dialect result) [] }
     {
         Seat {
             wire,
@@ -72,8 +64,8 @@ impl<W: Wire, L: Layout, D: Dialect> Seat<W, L, D> {
 
     // Tells of a key under the setting in force, and answers how many bytes that put on the wire.
     pub fn key<'a>(&mut self, event: &'a KeyEvent<'a>) -> Result<usize, Refusal>
-        ensures steps { Steps (view_of W.waiting W.capacity L.base D.bytes self.old) (Key (plain_event event.now)) (counted result) [] (view_of W.waiting W.capacity L.base D.bytes self.new) }
-        ensures reading { GoesOn (view_of W.waiting W.capacity L.base D.bytes self.old) (Key (plain_event event.now)) (counted result) [] (view_of W.waiting W.capacity L.base D.bytes self.new) }
+        ensures steps { Steps (view_of W.Wire L.Layout D.Dialect self.old) (Key (plain_event event.now)) (counted result) [] (view_of W.Wire L.Layout D.Dialect self.new) }
+        ensures reading { GoesOn (view_of W.Wire L.Layout D.Dialect self.old) (Key (plain_event event.now)) (counted result) [] (view_of W.Wire L.Layout D.Dialect self.new) }
     {
         let key = check(event)?;
         let flags = self.settings.top();
@@ -85,8 +77,8 @@ impl<W: Wire, L: Layout, D: Dialect> Seat<W, L, D> {
 
     // One setting more on the shown screen; of eight the oldest goes.
     pub fn push(&mut self, flags: u32) -> Result<(), Refusal>
-        ensures steps { Steps (view_of W.waiting W.capacity L.base D.bytes self.old) (Push flags) (plain_reply result) [] (view_of W.waiting W.capacity L.base D.bytes self.new) }
-        ensures reading { GoesOn (view_of W.waiting W.capacity L.base D.bytes self.old) (Push flags) (plain_reply result) [] (view_of W.waiting W.capacity L.base D.bytes self.new) }
+        ensures steps { Steps (view_of W.Wire L.Layout D.Dialect self.old) (Push flags) (plain_reply result) [] (view_of W.Wire L.Layout D.Dialect self.new) }
+        ensures reading { GoesOn (view_of W.Wire L.Layout D.Dialect self.old) (Push flags) (plain_reply result) [] (view_of W.Wire L.Layout D.Dialect self.new) }
     {
         let pushed = flags_of(flags)?;
         self.settings.push(pushed);
@@ -95,8 +87,8 @@ impl<W: Wire, L: Layout, D: Dialect> Seat<W, L, D> {
 
     // n settings less on the shown screen; a single 0 where n reaches the number held.
     pub fn pop(&mut self, n: usize) -> Result<(), Refusal>
-        ensures steps { Steps (view_of W.waiting W.capacity L.base D.bytes self.old) (Pop n) (plain_reply result) [] (view_of W.waiting W.capacity L.base D.bytes self.new) }
-        ensures reading { GoesOn (view_of W.waiting W.capacity L.base D.bytes self.old) (Pop n) (plain_reply result) [] (view_of W.waiting W.capacity L.base D.bytes self.new) }
+        ensures steps { Steps (view_of W.Wire L.Layout D.Dialect self.old) (Pop n) (plain_reply result) [] (view_of W.Wire L.Layout D.Dialect self.new) }
+        ensures reading { GoesOn (view_of W.Wire L.Layout D.Dialect self.old) (Pop n) (plain_reply result) [] (view_of W.Wire L.Layout D.Dialect self.new) }
     {
         if n == 0 {
             return Err(Refusal::Value);
@@ -107,37 +99,30 @@ impl<W: Wire, L: Layout, D: Dialect> Seat<W, L, D> {
 
     // Changes the setting in force: mode 1 replaces it, 2 adds bits, 3 clears bits.
     pub fn set(&mut self, flags: u32, mode: u32) -> Result<(), Refusal>
-        ensures steps { Steps (view_of W.waiting W.capacity L.base D.bytes self.old) (Set flags mode) (plain_reply result) [] (view_of W.waiting W.capacity L.base D.bytes self.new) }
-        ensures reading { GoesOn (view_of W.waiting W.capacity L.base D.bytes self.old) (Set flags mode) (plain_reply result) [] (view_of W.waiting W.capacity L.base D.bytes self.new) }
+        ensures steps { Steps (view_of W.Wire L.Layout D.Dialect self.old) (Set flags mode) (plain_reply result) [] (view_of W.Wire L.Layout D.Dialect self.new) }
+        ensures reading { GoesOn (view_of W.Wire L.Layout D.Dialect self.old) (Set flags mode) (plain_reply result) [] (view_of W.Wire L.Layout D.Dialect self.new) }
     {
         let given = flags_of(flags)?;
+        let mode = Mode::try_from(mode)?;
         let top = self.settings.top();
-        match mode {
-            1 => self.settings.replace(given),
-            2 => self.settings.replace(top.union(given)),
-            3 => self.settings.replace(top.difference(given)),
-            _ => return Err(Refusal::Value),
-        }
+        self.settings.replace(mode.apply(top, given));
         Ok(())
     }
 
     // Shows the main screen, 0, or the alternate one, 1.
     pub fn screen(&mut self, screen: usize) -> Result<(), Refusal>
-        ensures steps { Steps (view_of W.waiting W.capacity L.base D.bytes self.old) (Screened screen) (plain_reply result) [] (view_of W.waiting W.capacity L.base D.bytes self.new) }
-        ensures reading { GoesOn (view_of W.waiting W.capacity L.base D.bytes self.old) (Screened screen) (plain_reply result) [] (view_of W.waiting W.capacity L.base D.bytes self.new) }
+        ensures steps { Steps (view_of W.Wire L.Layout D.Dialect self.old) (Screened screen) (plain_reply result) [] (view_of W.Wire L.Layout D.Dialect self.new) }
+        ensures reading { GoesOn (view_of W.Wire L.Layout D.Dialect self.old) (Screened screen) (plain_reply result) [] (view_of W.Wire L.Layout D.Dialect self.new) }
     {
-        match screen {
-            0 => self.settings.show(Screen::Main),
-            1 => self.settings.show(Screen::Alternate),
-            _ => return Err(Refusal::Value),
-        }
+        let shown = Screen::try_from(screen).map_err(|_| Refusal::Value)?;
+        self.settings.show(shown);
         Ok(())
     }
 
     // Answers the setting in force, and how many bytes that put on the wire.
     pub fn query(&mut self) -> Result<usize, Refusal>
-        ensures steps { Steps (view_of W.waiting W.capacity L.base D.bytes self.old) Query (counted result) [] (view_of W.waiting W.capacity L.base D.bytes self.new) }
-        ensures reading { GoesOn (view_of W.waiting W.capacity L.base D.bytes self.old) Query (counted result) [] (view_of W.waiting W.capacity L.base D.bytes self.new) }
+        ensures steps { Steps (view_of W.Wire L.Layout D.Dialect self.old) Query (counted result) [] (view_of W.Wire L.Layout D.Dialect self.new) }
+        ensures reading { GoesOn (view_of W.Wire L.Layout D.Dialect self.old) Query (counted result) [] (view_of W.Wire L.Layout D.Dialect self.new) }
     {
         let flags = self.settings.top();
         self.send(&Report::Answer(flags))
@@ -145,8 +130,8 @@ impl<W: Wire, L: Layout, D: Dialect> Seat<W, L, D> {
 
     // Hands over the oldest bytes, and answers how many; the rest of the buffer stays.
     pub fn drain(&mut self, buffer: &mut [u8]) -> usize
-        ensures steps { Steps (view_of W.waiting W.capacity L.base D.bytes self.old) (Drain (length buffer.old)) (Done result) (take result buffer.new) (view_of W.waiting W.capacity L.base D.bytes self.new) }
-        ensures reading { GoesOn (view_of W.waiting W.capacity L.base D.bytes self.old) (Drain (length buffer.old)) (Done result) (take result buffer.new) (view_of W.waiting W.capacity L.base D.bytes self.new) }
+        ensures steps { Steps (view_of W.Wire L.Layout D.Dialect self.old) (Drain (length buffer.old)) (Done result) (take result buffer.new) (view_of W.Wire L.Layout D.Dialect self.new) }
+        ensures reading { GoesOn (view_of W.Wire L.Layout D.Dialect self.old) (Drain (length buffer.old)) (Done result) (take result buffer.new) (view_of W.Wire L.Layout D.Dialect self.new) }
         ensures rest { drop result buffer.new ≡ drop result buffer.old }
     {
         self.wire.take(buffer)

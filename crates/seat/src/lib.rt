@@ -2,5 +2,6 @@
 #![tactic(auto)]
 
 mod calls;
+mod mode;
 pub mod refusal;
 pub mod seat;

@@ -10,8 +10,9 @@ loop-i-preserved g c =
     let buffer = c.loop-i.buffer in
     let kept : length buffer ≡ length c.args.buffer.now = c.loop-i.auto.buffer in
     let held : length c.loop-i.answers ≡ length c.args.answers.now = c.loop-i.auto.answers in
-    let made = c.smaller-made.ensures in
+    let made = c.min-made.ensures in
+    let within = c.loop-i-test.true in
     let part = take (length buffer - at) (drop at buffer) in
     let size : length part ≡ length c.args.buffer.now - at = (let n = length-drop at buffer in rw length-take (omega arith)) in
-    going_more _ _ _ _ c.args.calls.now i _ _ c.loop-i.answers c.make-answer.result at c.handed-drained.result _ buffer part (drop (length buffer - at) (drop at buffer)) c.make-answer.new.buffer (let t = c.loop-i-test.true in omega arith) (let t = c.loop-i-test.true in omega arith) kept size (take-append-drop (length buffer - at) (drop at buffer)) c.make-answer.auto.buffer c.handed-drained.ensures c.loop-i.invariant
+    going_more _ _ _ _ (take c.min-made.result c.args.calls.now) i _ _ c.loop-i.answers c.make-answer.result at c.handed-drained.result _ buffer part (drop (length buffer - at) (drop at buffer)) c.make-answer.new.buffer within (let n = length-take c.min-made.result c.args.calls.now in omega arith) kept size (take-append-drop (length buffer - at) (drop at buffer)) c.make-answer.auto.buffer c.handed-drained.ensures c.loop-i.invariant
     (record { steps = a.steps; reading = a.reading; rest = a.rest; room = a.room })

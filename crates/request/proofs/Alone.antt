@@ -21,40 +21,40 @@ prefix : (s u : Spelled) → Proper s → Proper u → (rest : List ℕ) → spe
 prefix (Push f) (Push h) k j rest e =
     let p = same_end f h 117 117 rest [] k.0 j.0 refl refl (sym (append_assoc f (117 ∷ []) rest) ∙ ap after_kind e) in
     (p.2, ap (λ x. asks (Push x)) p.0)
-prefix (Push f) (Pop h) k j rest e = let z : ◌≡◌ {A = ℕ} 62 60 = ap third e in absurd (omega arith)
-prefix (Push f) (Set h) k j rest e = let z : ◌≡◌ {A = ℕ} 62 61 = ap third e in absurd (omega arith)
-prefix (Push f) (SetMode h w) k j rest e = let z : ◌≡◌ {A = ℕ} 62 61 = ap third e in absurd (omega arith)
-prefix (Push f) Query k j rest e = let z : ◌≡◌ {A = ℕ} 62 63 = ap third e in absurd (omega arith)
-prefix (Pop f) (Push h) k j rest e = let z : ◌≡◌ {A = ℕ} 60 62 = ap third e in absurd (omega arith)
+prefix (Push f) (Pop h) k j rest e = absurd (omega (arith, ap third e))
+prefix (Push f) (Set h) k j rest e = absurd (omega (arith, ap third e))
+prefix (Push f) (SetMode h w) k j rest e = absurd (omega (arith, ap third e))
+prefix (Push f) Query k j rest e = absurd (omega (arith, ap third e))
+prefix (Pop f) (Push h) k j rest e = absurd (omega (arith, ap third e))
 prefix (Pop f) (Pop h) k j rest e =
     let p = same_end f h 117 117 rest [] k.0 j.0 refl refl (sym (append_assoc f (117 ∷ []) rest) ∙ ap after_kind e) in
     (p.2, ap (λ x. asks (Pop x)) p.0)
-prefix (Pop f) (Set h) k j rest e = let z : ◌≡◌ {A = ℕ} 60 61 = ap third e in absurd (omega arith)
-prefix (Pop f) (SetMode h w) k j rest e = let z : ◌≡◌ {A = ℕ} 60 61 = ap third e in absurd (omega arith)
-prefix (Pop f) Query k j rest e = let z : ◌≡◌ {A = ℕ} 60 63 = ap third e in absurd (omega arith)
-prefix (Set f) (Push h) k j rest e = let z : ◌≡◌ {A = ℕ} 61 62 = ap third e in absurd (omega arith)
-prefix (Set f) (Pop h) k j rest e = let z : ◌≡◌ {A = ℕ} 61 60 = ap third e in absurd (omega arith)
+prefix (Pop f) (Set h) k j rest e = absurd (omega (arith, ap third e))
+prefix (Pop f) (SetMode h w) k j rest e = absurd (omega (arith, ap third e))
+prefix (Pop f) Query k j rest e = absurd (omega (arith, ap third e))
+prefix (Set f) (Push h) k j rest e = absurd (omega (arith, ap third e))
+prefix (Set f) (Pop h) k j rest e = absurd (omega (arith, ap third e))
 prefix (Set f) (Set h) k j rest e =
     let p = same_end f h 117 117 rest [] k.0 j.0 refl refl (sym (append_assoc f (117 ∷ []) rest) ∙ ap after_kind e) in
     (p.2, ap (λ x. asks (Set x)) p.0)
 prefix (Set f) (SetMode h w) k j rest e =
     let p = same_end f h 117 59 rest (w ++ 117 ∷ []) k.0 j.0.0 refl refl (sym (append_assoc f (117 ∷ []) rest) ∙ ap after_kind e) in
-    let z : ◌≡◌ {A = ℕ} 117 59 = p.1 in absurd (omega arith)
-prefix (Set f) Query k j rest e = let z : ◌≡◌ {A = ℕ} 61 63 = ap third e in absurd (omega arith)
-prefix (SetMode f m) (Push h) k j rest e = let z : ◌≡◌ {A = ℕ} 61 62 = ap third e in absurd (omega arith)
-prefix (SetMode f m) (Pop h) k j rest e = let z : ◌≡◌ {A = ℕ} 61 60 = ap third e in absurd (omega arith)
+    absurd (omega (arith, p.1))
+prefix (Set f) Query k j rest e = absurd (omega (arith, ap third e))
+prefix (SetMode f m) (Push h) k j rest e = absurd (omega (arith, ap third e))
+prefix (SetMode f m) (Pop h) k j rest e = absurd (omega (arith, ap third e))
 prefix (SetMode f m) (Set h) k j rest e =
     let p = same_end f h 59 117 ((m ++ 117 ∷ []) ++ rest) [] k.0.0 j.0 refl refl (sym (append_assoc f (59 ∷ (m ++ 117 ∷ [])) rest) ∙ ap after_kind e) in
-    let z : ◌≡◌ {A = ℕ} 59 117 = p.1 in absurd (omega arith)
+    absurd (omega (arith, p.1))
 prefix (SetMode f m) (SetMode h w) k j rest e =
     let p = same_end f h 59 59 ((m ++ 117 ∷ []) ++ rest) (w ++ 117 ∷ []) k.0.0 j.0.0 refl refl (sym (append_assoc f (59 ∷ (m ++ 117 ∷ [])) rest) ∙ ap after_kind e) in
     let q = same_end m w 117 117 rest [] k.1.0 j.1.0 refl refl (sym (append_assoc m (117 ∷ []) rest) ∙ p.2) in
     (q.2, ap (λ x. asks (SetMode x m)) p.0 ∙ ap (λ x. asks (SetMode h x)) q.0)
-prefix (SetMode f m) Query k j rest e = let z : ◌≡◌ {A = ℕ} 61 63 = ap third e in absurd (omega arith)
-prefix Query (Push h) k j rest e = let z : ◌≡◌ {A = ℕ} 63 62 = ap third e in absurd (omega arith)
-prefix Query (Pop h) k j rest e = let z : ◌≡◌ {A = ℕ} 63 60 = ap third e in absurd (omega arith)
-prefix Query (Set h) k j rest e = let z : ◌≡◌ {A = ℕ} 63 61 = ap third e in absurd (omega arith)
-prefix Query (SetMode h w) k j rest e = let z : ◌≡◌ {A = ℕ} 63 61 = ap third e in absurd (omega arith)
+prefix (SetMode f m) Query k j rest e = absurd (omega (arith, ap third e))
+prefix Query (Push h) k j rest e = absurd (omega (arith, ap third e))
+prefix Query (Pop h) k j rest e = absurd (omega (arith, ap third e))
+prefix Query (Set h) k j rest e = absurd (omega (arith, ap third e))
+prefix Query (SetMode h w) k j rest e = absurd (omega (arith, ap third e))
 prefix Query Query k j rest e = (ap (λ l. tail (after_kind l)) e, refl)
 
 going_ends : (bs : List ℕ) (q : Request) → Begins bs → Whole bs q → ⊥

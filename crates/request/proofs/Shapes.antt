@@ -51,10 +51,10 @@ abbrev pub after_kind : List ℕ → List ℕ
 after_kind l = tail (tail (tail l))
 
 pub query_only : (b : ℕ) → (b ≡ 117 → ⊥) → Misfits (27 ∷ 91 ∷ 63 ∷ b ∷ [])
-query_only b ne (Push f) k rest e = let z : ◌≡◌ {A = ℕ} 63 62 = ap third e in omega arith
-query_only b ne (Pop n) k rest e = let z : ◌≡◌ {A = ℕ} 63 60 = ap third e in omega arith
-query_only b ne (Set f) k rest e = let z : ◌≡◌ {A = ℕ} 63 61 = ap third e in omega arith
-query_only b ne (SetMode f m) k rest e = let z : ◌≡◌ {A = ℕ} 63 61 = ap third e in omega arith
+query_only b ne (Push f) k rest e = omega (arith, ap third e)
+query_only b ne (Pop n) k rest e = omega (arith, ap third e)
+query_only b ne (Set f) k rest e = omega (arith, ap third e)
+query_only b ne (SetMode f m) k rest e = omega (arith, ap third e)
 query_only b ne Query k rest e = ne (ap (λ l. head (after_kind l)) e)
 
 module _ (f : List ℕ) (n : Option ℕ) (b : ℕ) (g : Gives f n) (e : digit b && leb (unwrap_or n 0 * 10 + (b - 48)) 65535 ≡ false) (ne : b ≡ 117 → ⊥) where
@@ -63,32 +63,32 @@ module _ (f : List ℕ) (n : Option ℕ) (b : ℕ) (g : Gives f n) (e : digit b 
 
   pub push_only : Misfits (27 ∷ 91 ∷ 62 ∷ f ++ b ∷ [])
   push_only (Push h) k rest is = ne (stuck f n b g e h k 117 rest [] refl (sym (joins rest) ∙ ap after_kind is))
-  push_only (Pop h) k rest is = let z : ◌≡◌ {A = ℕ} 62 60 = ap third is in omega arith
-  push_only (Set h) k rest is = let z : ◌≡◌ {A = ℕ} 62 61 = ap third is in omega arith
-  push_only (SetMode h m) k rest is = let z : ◌≡◌ {A = ℕ} 62 61 = ap third is in omega arith
-  push_only Query k rest is = let z : ◌≡◌ {A = ℕ} 62 63 = ap third is in omega arith
+  push_only (Pop h) k rest is = omega (arith, ap third is)
+  push_only (Set h) k rest is = omega (arith, ap third is)
+  push_only (SetMode h m) k rest is = omega (arith, ap third is)
+  push_only Query k rest is = omega (arith, ap third is)
 
   pub pop_only : Misfits (27 ∷ 91 ∷ 60 ∷ f ++ b ∷ [])
-  pop_only (Push h) k rest is = let z : ◌≡◌ {A = ℕ} 60 62 = ap third is in omega arith
+  pop_only (Push h) k rest is = omega (arith, ap third is)
   pop_only (Pop h) k rest is = ne (stuck f n b g e h k 117 rest [] refl (sym (joins rest) ∙ ap after_kind is))
-  pop_only (Set h) k rest is = let z : ◌≡◌ {A = ℕ} 60 61 = ap third is in omega arith
-  pop_only (SetMode h m) k rest is = let z : ◌≡◌ {A = ℕ} 60 61 = ap third is in omega arith
-  pop_only Query k rest is = let z : ◌≡◌ {A = ℕ} 60 63 = ap third is in omega arith
+  pop_only (Set h) k rest is = omega (arith, ap third is)
+  pop_only (SetMode h m) k rest is = omega (arith, ap third is)
+  pop_only Query k rest is = omega (arith, ap third is)
 
   pub set_only : (b ≡ 59 → ⊥) → Misfits (27 ∷ 91 ∷ 61 ∷ f ++ b ∷ [])
-  set_only nm (Push h) k rest is = let z : ◌≡◌ {A = ℕ} 61 62 = ap third is in omega arith
-  set_only nm (Pop h) k rest is = let z : ◌≡◌ {A = ℕ} 61 60 = ap third is in omega arith
+  set_only nm (Push h) k rest is = omega (arith, ap third is)
+  set_only nm (Pop h) k rest is = omega (arith, ap third is)
   set_only nm (Set h) k rest is = ne (stuck f n b g e h k 117 rest [] refl (sym (joins rest) ∙ ap after_kind is))
   set_only nm (SetMode h m) k rest is = nm (stuck f n b g e h k.0 59 rest (m ++ 117 ∷ []) refl (sym (joins rest) ∙ ap after_kind is))
-  set_only nm Query k rest is = let z : ◌≡◌ {A = ℕ} 61 63 = ap third is in omega arith
+  set_only nm Query k rest is = omega (arith, ap third is)
 
 pub mode_only : (f m : List ℕ) (n : Option ℕ) (b : ℕ) → Number f → Gives m n → digit b && leb (unwrap_or n 0 * 10 + (b - 48)) 65535 ≡ false → (b ≡ 117 → ⊥) → Misfits (27 ∷ 91 ∷ 61 ∷ (f ++ 59 ∷ m) ++ b ∷ [])
-mode_only f m n b num g e ne (Push h) k rest is = let z : ◌≡◌ {A = ℕ} 61 62 = ap third is in omega arith
-mode_only f m n b num g e ne (Pop h) k rest is = let z : ◌≡◌ {A = ℕ} 61 60 = ap third is in omega arith
+mode_only f m n b num g e ne (Push h) k rest is = omega (arith, ap third is)
+mode_only f m n b num g e ne (Pop h) k rest is = omega (arith, ap third is)
 mode_only f m n b num g e ne (Set h) k rest is =
     let u : f ++ 59 ∷ ((m ++ b ∷ []) ++ rest) ≡ h ++ 117 ∷ [] = sym (ap (λ l. l ++ rest) (append_assoc f (59 ∷ m) (b ∷ [])) ∙ append_assoc f (59 ∷ m ++ b ∷ []) rest) ∙ ap after_kind is in
     elim (split 0 59 117 ((m ++ b ∷ []) ++ rest) [] f h num.0 k.0 refl u) [
-      | inl p ↦ let z : ◌≡◌ {A = ℕ} 59 117 = p.1 in omega arith
+      | inl p ↦ omega (arith, p.1)
       | inr p ↦ absurd (true≢false (sym p.0))
     ]
 mode_only f m n b num g e ne (SetMode h w) k rest is =
@@ -97,4 +97,4 @@ mode_only f m n b num g e ne (SetMode h w) k rest is =
       | inl p ↦ ne (stuck m n b g e w k.1 117 rest [] refl (sym (append_assoc m (b ∷ []) rest) ∙ p.2))
       | inr p ↦ absurd (true≢false (sym p.0))
     ]
-mode_only f m n b num g e ne Query k rest is = let z : ◌≡◌ {A = ℕ} 61 63 = ap third is in omega arith
+mode_only f m n b num g e ne Query k rest is = omega (arith, ap third is)

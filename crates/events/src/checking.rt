@@ -7,7 +7,7 @@ ghost use Rattle.events.specs.Checks.{bytes_of};
 
 use crate::checked::Checked;
 use crate::fault::Fault;
-use crate::kind::{Kind, kind_of};
+use crate::kind::Kind;
 use input_types::event::KeyEvent;
 use input_types::modifiers::{KeyboardLedStatus, Modifiers};
 use texts::{char_past, checked, is_allowed};
@@ -15,12 +15,10 @@ use texts::{char_past, checked, is_allowed};
 fn check_text(bytes: &[u8]) -> Result<&str, Fault>
     ensures { MatchResult result (λ t. (t.now ≡ bytes.now) × (text_fault bytes.now ≡ Nothing)) (λ f. text_fault bytes.now ≡ Just f) }
 {
-    match checked(bytes) {
-        Ok(text) => match char_past(text, 32) {
-            Some(place) => Err(Fault::TooLong(place)),
-            None => Ok(text),
-        },
-        Err(fault) => Err(Fault::NotText(fault.place)),
+    let text = checked(bytes)?;
+    match char_past(text, 32) {
+        Some(place) => Err(Fault::TooLong(place)),
+        None => Ok(text),
     }
 }
 
@@ -53,10 +51,9 @@ fn check_part<'a>(
 pub fn check<'a>(event: &'a KeyEvent<'a>) -> Result<Checked<'a>, Fault>
     ensures { MatchResult result (λ c. c.event.now ≡ event.now) (λ f. event_fault (plain_event event.now) ≡ Just f) }
 {
-    let kind = kind_of(event.key);
-    let text = check_part(kind, event.modifiers, event.leds)?;
+    let text = check_part(event.key.into(), event.modifiers, event.leds)?;
     if let Some(raw) = &event.raw {
-        check_part(kind_of(raw.key), raw.modifiers, raw.leds)?;
+        check_part(raw.key.into(), raw.modifiers, raw.leds)?;
     }
     Ok(Checked { event, text })
 }

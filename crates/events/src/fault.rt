@@ -1,8 +1,12 @@
 // What can be wrong with an event.
 ghost use Rattle.std.specs.Prelude.{◌≡◌};
+ghost use Rattle.events.specs.declared.fault.Fault.TheVariants.{NotText as Torn};
 ghost use Rattle.events.specs.Refusals.{number, place};
 
-#[derive(Clone, Copy)]
+use std::fmt;
+use texts::NotText;
+
+#[derive(Clone, Copy, Debug, PartialEq, Eq)]
 pub enum Fault {
     // A character that stands for another key.
     NotAllowed,
@@ -33,5 +37,24 @@ impl Fault {
             Fault::NotAllowed | Fault::OutOfRange => 0,
             Fault::NotText(place) | Fault::TooLong(place) => place,
         }
+    }
+}
+
+impl From<NotText> for Fault {
+    ghost from_gives = { λ e r. r ≡ Torn e.place };
+
+    fn from(e: NotText) -> Fault {
+        Fault::NotText(e.place)
+    }
+}
+
+impl fmt::Display for Fault {
+    fn fmt<W: fmt::Write>(&self, f: &mut fmt::Formatter<W>) -> fmt::Result {
+        f.write_str(match self {
+            Fault::NotAllowed => "a character that stands for another key",
+            Fault::OutOfRange => "a key number out of range, or a bit without a name",
+            Fault::NotText(_) => "not UTF-8 from that byte on",
+            Fault::TooLong(_) => "more than 32 characters",
+        })
     }
 }

@@ -6,7 +6,7 @@ ghost use Rattle.events.specs.Checks.{bytes_of};
 ghost use Rattle.events.specs.Passed.{event_of};
 
 use crate::checked::Checked;
-use crate::kind::{Kind, kind_of};
+use crate::kind::Kind;
 use input_types::modifiers::{KeyboardLedStatus, Modifiers};
 use input_types::phys_key_code::PhysKeyCode;
 use report::ending::Direction;
@@ -15,7 +15,7 @@ impl<'a> Checked<'a> {
     pub fn kind(self) -> Kind<'a>
         ensures { plain_kind result ≡ (event_of self.entry).key.kind }
     {
-        kind_of(self.event.key)
+        self.event.key.into()
     }
 
     // The text of a composed key; empty for any other.
@@ -75,10 +75,7 @@ impl<'a> Checked<'a> {
     pub fn raw_phys(self) -> Option<PhysKeyCode>
         ensures { result ≡ phys_raw (event_of self.entry).raw }
     {
-        match &self.event.raw {
-            Some(raw) => raw.phys_code,
-            None => None,
-        }
+        self.event.raw.as_ref()?.phys_code
     }
 
     // The physical key that the raw event names, or else the place of the event's key.
@@ -96,9 +93,6 @@ impl<'a> Checked<'a> {
         ensures value { result ≡ code_raw (event_of self.entry).raw }
         ensures bound { IfSome result (λ n. n ≤ 57654) }
     {
-        match &self.event.raw {
-            Some(raw) => raw.kitty_function_code(),
-            None => None,
-        }
+        self.event.raw.as_ref()?.kitty_function_code()
     }
 }

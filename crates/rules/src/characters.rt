@@ -10,7 +10,7 @@ use crate::early::as_erased;
 use crate::making::full_key;
 use crate::stroke::Stroke;
 use events::checked::Checked;
-use events::kind::{Kind, kind_of};
+use events::kind::Kind;
 use input_types::control::ctrl_mapping;
 use input_types::flags::KittyKeyboardFlags;
 use input_types::modifiers::Modifiers;
@@ -77,7 +77,7 @@ fn given_by(phys: Option<PhysKeyCode>) -> Option<char>
     let Some(phys) = phys else {
         return None;
     };
-    match kind_of(phys.to_key_code()) {
+    match Kind::from(phys.to_key_code()) {
         Kind::Char('\u{7f}') => None,
         Kind::Char(c) => Some(as_erased(c)),
         _ => None,

@@ -2,10 +2,12 @@
 ghost use Rattle.std.specs.Prelude.{◌≡◌};
 ghost use Rattle.std.specs.Option.{option_map};
 ghost use Rattle.events.specs.Kinds.{plain_kind};
+ghost use Rattle.events.specs.Passed.{event_of};
 ghost use Rattle.report.specs.Meanings.{means};
 ghost use Rattle.rules.specs.Strokes.{plain_stroke};
 ghost use Rattle.rules.specs.Rules.{ruled, erased, plainly, texts, keypad};
 
+use crate::input::Input;
 use crate::keypad::pad_code;
 use crate::making::{bare_key, full_key};
 use crate::stroke::Stroke;
@@ -24,27 +26,30 @@ pub(crate) fn as_erased(c: char) -> char
     if c == '\u{8}' { '\u{7f}' } else { c }
 }
 
-// Whether a press of a character is its own text.
-fn is_plain(flags: KittyKeyboardFlags, down: bool, own: Modifiers, c: char) -> bool
-    ensures { result ≡ plainly flags.bits down own.bits c }
-{
-    down && own.bits == 0
-        && !flags.contains(KittyKeyboardFlags::REPORT_ALL_KEYS_AS_ESCAPE_CODES)
-        && !(c == '\u{1b}' && flags.contains(KittyKeyboardFlags::DISAMBIGUATE_ESCAPE_CODES))
-        && c != '\u{7f}'
-}
+impl Input<'_> {
+    // Whether a press of a character is its own text.
+    fn is_plain(&self, c: char) -> bool
+        ensures { result ≡ plainly self.now.flags.bits (event_of self.now.key).down (event_of self.now.key).modifiers c }
+    {
+        self.key.is_down()
+            && self.key.modifiers() == Modifiers::NONE
+            && !self
+                .flags
+                .contains(KittyKeyboardFlags::REPORT_ALL_KEYS_AS_ESCAPE_CODES)
+            && !(c == '\u{1b}'
+                && self
+                    .flags
+                    .contains(KittyKeyboardFlags::DISAMBIGUATE_ESCAPE_CODES))
+            && c != '\u{7f}'
+    }
 
-pub(crate) fn text_rule(
-    flags: KittyKeyboardFlags,
-    down: bool,
-    own: Modifiers,
-    kind: Kind,
-) -> Option<Report>
-    ensures { ruled (option_map means result) ≡ texts flags.bits down own.bits (plain_kind kind.entry) }
-{
-    match kind {
-        Kind::Char(c) if is_plain(flags, down, own, c) => Some(plain_text(as_erased(c))),
-        _ => None,
+    pub(crate) fn text_rule(&self, kind: Kind) -> Option<Report>
+        ensures { ruled (option_map means result) ≡ texts self.now.flags.bits (event_of self.now.key).down (event_of self.now.key).modifiers (plain_kind kind.entry) }
+    {
+        match kind {
+            Kind::Char(c) if self.is_plain(c) => Some(plain_text(as_erased(c))),
+            _ => None,
+        }
     }
 }
 
@@ -52,12 +57,8 @@ pub(crate) fn text_rule(
 pub(crate) fn keypad_rule(lock: bool, guess: Option<PhysKeyCode>, stroke: &Stroke) -> Option<Report>
     ensures { ruled (option_map means result) ≡ keypad lock guess (plain_stroke stroke.now) }
 {
-    let Some(phys) = guess else {
-        return None;
-    };
-    match pad_code(phys, lock) {
-        Some(1) => Some(bare_key(1, Last::Begin, stroke)),
-        Some(number) => Some(full_key(number, None, None, stroke)),
-        None => None,
+    match pad_code(guess?, lock)? {
+        1 => Some(bare_key(1, Last::Begin, stroke)),
+        number => Some(full_key(number, None, None, stroke)),
     }
 }

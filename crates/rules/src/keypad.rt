@@ -5,7 +5,7 @@ ghost use Rattle.rules.specs.Pads.{pads as keypad, pad_place, number_in, pad_cod
 use input_types::phys_key_code::PhysKeyCode;
 
 // A key, its number with Num Lock, and its number without; 1 is that of the key in the middle, which has a final of its own.
-#[derive(Clone, Copy)]
+#[derive(Clone, Copy, Debug, PartialEq, Eq)]
 pub struct Pad {
     pub phys: PhysKeyCode,
     pub locked: u32,
@@ -148,10 +148,8 @@ pub fn pad_code(phys: PhysKeyCode, lock: bool) -> Option<u32>
     ensures value { result ≡ pad_code phys lock }
     ensures bound { IfSome result (λ n. n ≤ 57426) }
 {
-    match pad_place(phys) {
-        Some(place) => Some(number_in(&PADS, place, lock)),
-        None => None,
-    }
+    let place = pad_place(phys)?;
+    Some(number_in(&PADS, place, lock))
 }
 
 // The table, in which each entry stands at the place of its key.

@@ -7,43 +7,15 @@ ghost use Rattle.events.specs.Passed.{event_of};
 ghost use Rattle.rules.specs.Strokes.{plain_stroke};
 ghost use Rattle.rules.specs.Rules.{ruled, told, entering, function_numbers, function_tells, functional, late};
 
-use crate::characters::character_key;
+use crate::input::Input;
 use crate::making::{bare_key, full_key};
 use crate::stroke::Stroke;
-use events::checked::Checked;
 use events::kind::Kind;
 use input_types::flags::KittyKeyboardFlags;
 use layout::Layout;
 use report::ending::Last;
 use report::report::Report;
 use report::text::Text;
-
-// Whether a release is one of Enter, Tab or Backspace that stays silent.
-fn is_entering(flags: KittyKeyboardFlags, down: bool, c: char) -> bool
-    ensures { result ≡ entering flags.bits down c }
-{
-    !down
-        && !flags.contains(KittyKeyboardFlags::REPORT_ALL_KEYS_AS_ESCAPE_CODES)
-        && (c == '\r' || c == '\t' || c == '\u{8}')
-}
-
-fn char_rules<L: Layout>(
-    layout: &L,
-    flags: KittyKeyboardFlags,
-    key: Checked,
-    c: char,
-    stroke: &Stroke,
-) -> Option<Report>
-    ensures { option_map means result ≡ told (late (L.base layout.now) flags.bits (event_of key.entry) (character c) (plain_stroke stroke.now)) }
-{
-    if c == '\u{7f}' {
-        return Some(bare_key(3, Last::Tilde, stroke));
-    }
-    if is_entering(flags, key.is_down(), c) {
-        return None;
-    }
-    Some(character_key(layout, flags, key, c, stroke))
-}
 
 // The number of each of the first twelve function keys.
 fn function_number(n: u8) -> u32
@@ -85,41 +57,65 @@ fn function_rule(n: u8, stroke: &Stroke) -> Option<Report>
     }
 }
 
-// A key of a raw event by its number among the functional keys.
-fn functional_rule(flags: KittyKeyboardFlags, key: Checked, stroke: &Stroke) -> Option<Report>
-    ensures { ruled (option_map means result) ≡ functional flags.bits (event_of key.entry).raw (plain_stroke stroke.now) }
-{
-    if !flags.contains(KittyKeyboardFlags::REPORT_ALL_KEYS_AS_ESCAPE_CODES) {
-        return None;
+impl Input<'_> {
+    // Whether a release is one of Enter, Tab or Backspace that stays silent.
+    fn is_entering(&self, c: char) -> bool
+        ensures { result ≡ entering self.now.flags.bits (event_of self.now.key).down c }
+    {
+        !self.key.is_down()
+            && !self
+                .flags
+                .contains(KittyKeyboardFlags::REPORT_ALL_KEYS_AS_ESCAPE_CODES)
+            && (c == '\r' || c == '\t' || c == '\u{8}')
     }
-    match key.raw_code() {
-        Some(number) if number == 2 || number == 57427 => Some(bare_key(
-            number,
-            Last::Tilde,
-            stroke,
-        )),
-        Some(number) => Some(full_key(number, None, None, stroke)),
-        None => None,
-    }
-}
 
-pub(crate) fn late_rules<L: Layout>(
-    layout: &L,
-    flags: KittyKeyboardFlags,
-    key: Checked,
-    kind: Kind,
-    stroke: &Stroke,
-) -> Option<Report>
-    ensures { option_map means result ≡ told (late (L.base layout.now) flags.bits (event_of key.entry) (plain_kind kind.entry) (plain_stroke stroke.now)) }
-{
-    match kind {
-        Kind::Char(c) => char_rules(layout, flags, key, c, stroke),
-        Kind::Numbered(n) => Some(bare_key(n as u32, Last::Tilde, stroke)),
-        Kind::Lettered(last) => Some(bare_key(1, last, stroke)),
-        Kind::Function(n) => match function_rule(n, stroke) {
-            Some(report) => Some(report),
-            None => functional_rule(flags, key, stroke),
-        },
-        Kind::Composed(_) | Kind::Numpad(_) | Kind::Other => functional_rule(flags, key, stroke),
+    fn char_rules<L: Layout>(&self, layout: &L, c: char, stroke: &Stroke) -> Option<Report>
+        ensures { option_map means result ≡ told (late (L.base layout.now) self.now.flags.bits (event_of self.now.key) (character c) (plain_stroke stroke.now)) }
+    {
+        if c == '\u{7f}' {
+            return Some(bare_key(3, Last::Tilde, stroke));
+        }
+        if self.is_entering(c) {
+            return None;
+        }
+        Some(self.character_key(layout, c, stroke))
+    }
+
+    // A key of a raw event by its number among the functional keys.
+    fn functional_rule(&self, stroke: &Stroke) -> Option<Report>
+        ensures { ruled (option_map means result) ≡ functional self.now.flags.bits (event_of self.now.key).raw (plain_stroke stroke.now) }
+    {
+        if !self
+            .flags
+            .contains(KittyKeyboardFlags::REPORT_ALL_KEYS_AS_ESCAPE_CODES)
+        {
+            return None;
+        }
+        let number = self.key.raw_code()?;
+        if number == 2 || number == 57427 {
+            Some(bare_key(number, Last::Tilde, stroke))
+        } else {
+            Some(full_key(number, None, None, stroke))
+        }
+    }
+
+    pub(crate) fn late_rules<L: Layout>(
+        &self,
+        layout: &L,
+        kind: Kind,
+        stroke: &Stroke,
+    ) -> Option<Report>
+        ensures { option_map means result ≡ told (late (L.base layout.now) self.now.flags.bits (event_of self.now.key) (plain_kind kind.entry) (plain_stroke stroke.now)) }
+    {
+        match kind {
+            Kind::Char(c) => self.char_rules(layout, c, stroke),
+            Kind::Numbered(n) => Some(bare_key(n as u32, Last::Tilde, stroke)),
+            Kind::Lettered(last) => Some(bare_key(1, last, stroke)),
+            Kind::Function(n) => match function_rule(n, stroke) {
+                Some(report) => Some(report),
+                None => self.functional_rule(stroke),
+            },
+            Kind::Composed(_) | Kind::Numpad(_) | Kind::Other => self.functional_rule(stroke),
+        }
     }
 }

@@ -3,6 +3,7 @@
 
 mod characters;
 mod early;
+mod input;
 pub mod keypad;
 mod late;
 pub mod laws;

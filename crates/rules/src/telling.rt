@@ -8,43 +8,44 @@ ghost use Rattle.rules.specs.Laws.{Told, Own, CharacterKey};
 ghost use Rattle.rules.specs.Strokes.{plain_stroke};
 ghost use Rattle.rules.specs.Rules.{stroke, tells};
 
-use crate::early::{keypad_rule, text_rule};
-use crate::late::late_rules;
+use crate::early::keypad_rule;
+use crate::input::Input;
 use crate::stroke::Stroke;
-use crate::typing::typed_text;
 use events::checked::Checked;
 use input_types::flags::KittyKeyboardFlags;
 use input_types::modifiers::KeyboardLedStatus;
 use layout::Layout;
 use report::report::Report;
 
-fn stroke_of(flags: KittyKeyboardFlags, key: Checked) -> Stroke
-    ensures { plain_stroke result ≡ stroke flags.bits (event_of key.entry) }
-{
-    Stroke {
-        sum: key.modifier_sum(),
-        direction: key.told_direction(),
-        text: typed_text(flags, key),
+impl Input<'_> {
+    fn stroke(&self) -> Stroke
+        ensures { plain_stroke result ≡ stroke self.now.flags.bits (event_of self.now.key) }
+    {
+        Stroke {
+            sum: self.key.modifier_sum(),
+            direction: self.key.told_direction(),
+            text: self.typed_text(),
+        }
     }
-}
 
-// What the first rule that fits says, if it says anything.
-fn first_said<L: Layout>(layout: &L, flags: KittyKeyboardFlags, key: Checked) -> Option<Report>
-    ensures { option_map means result ≡ tells (L.base layout.now) flags.bits (event_of key.entry) }
-{
-    if !key.is_down() && !flags.contains(KittyKeyboardFlags::REPORT_EVENT_TYPES) {
-        return None;
+    // What the first rule that fits says, if it says anything.
+    fn first_said<L: Layout>(&self, layout: &L) -> Option<Report>
+        ensures { option_map means result ≡ tells (L.base layout.now) self.now.flags.bits (event_of self.now.key) }
+    {
+        if !self.key.is_down() && !self.flags.contains(KittyKeyboardFlags::REPORT_EVENT_TYPES) {
+            return None;
+        }
+        let kind = self.key.kind();
+        if let Some(report) = self.text_rule(kind) {
+            return Some(report);
+        }
+        let stroke = self.stroke();
+        let lock = self.key.leds().contains(KeyboardLedStatus::NUM_LOCK);
+        if let Some(report) = keypad_rule(lock, self.key.guessed_phys(), &stroke) {
+            return Some(report);
+        }
+        self.late_rules(layout, kind, &stroke)
     }
-    let kind = key.kind();
-    if let Some(report) = text_rule(flags, key.is_down(), key.modifiers(), kind) {
-        return Some(report);
-    }
-    let stroke = stroke_of(flags, key);
-    let lock = key.leds().contains(KeyboardLedStatus::NUM_LOCK);
-    if let Some(report) = keypad_rule(lock, key.guessed_phys(), &stroke) {
-        return Some(report);
-    }
-    late_rules(layout, flags, key, kind, &stroke)
 }
 
 // What an event that passed the check tells, or nothing. Where escape codes are disambiguated it is clear;
@@ -54,5 +55,5 @@ pub fn tell<L: Layout>(layout: &L, flags: KittyKeyboardFlags, key: Checked) -> O
     ensures clear { holds flags.bits disambiguate ≡ true → Told Clear (option_map means result) }
     ensures own { (c : ℕ) → CharacterKey (event_of key.entry) c → Told (Own (L.base layout.now)) (option_map means result) }
 {
-    first_said(layout, flags, key)
+    Input { flags, key }.first_said(layout)
 }

@@ -5,6 +5,7 @@ ghost use Rattle.report.specs.Meanings.{characters};
 ghost use Rattle.events.specs.Passed.{event_of};
 ghost use Rattle.rules.specs.Typed.{keeps, shown, text_of, typed};
 
+use crate::input::Input;
 use events::checked::Checked;
 use events::kind::Kind;
 use input_types::flags::KittyKeyboardFlags;
@@ -51,13 +52,19 @@ fn text_of(key: Checked) -> Text
     }
 }
 
-// The text of a press, where associated text is asked for.
-pub(crate) fn typed_text(flags: KittyKeyboardFlags, key: Checked) -> Text
-    ensures { characters result ≡ typed flags.bits (event_of key.entry).down (event_of key.entry).key.kind }
-{
-    if key.is_down() && flags.contains(KittyKeyboardFlags::REPORT_ASSOCIATED_TEXT) {
-        text_of(key)
-    } else {
-        Text::none()
+impl Input<'_> {
+    // The text of a press, where associated text is asked for.
+    pub(crate) fn typed_text(&self) -> Text
+        ensures { characters result ≡ typed self.now.flags.bits (event_of self.now.key).down (event_of self.now.key).key.kind }
+    {
+        if self.key.is_down()
+            && self
+                .flags
+                .contains(KittyKeyboardFlags::REPORT_ASSOCIATED_TEXT)
+        {
+            text_of(self.key)
+        } else {
+            Text::none()
+        }
     }
 }

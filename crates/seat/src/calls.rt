@@ -39,11 +39,8 @@ impl<W: Wire, L: Layout, D: Dialect> Seat<W, L, D> {
     {
         let mut room = [0; 512];
         let n = self.dialect.write(report, &mut room);
-        if self.wire.put(&room[..n]) {
-            Ok(n)
-        } else {
-            Err(Refusal::NoRoom)
-        }
+        self.wire.put(&room[..n])?;
+        Ok(n)
     }
 
     // Opens a seat over any wire; over an empty one its history begins.

@@ -1,11 +1,12 @@
 // Why a seat declines a call.
 ghost use Rattle.std.specs.Prelude.{◌≡◌};
 ghost use Rattle.seat.specs.Refusals.{refusal_number, refusal_place};
-ghost use Rattle.seat.specs.declared.refusal.Refusal.TheVariants.{Event as OfEvent};
+ghost use Rattle.seat.specs.declared.refusal.Refusal.TheVariants.{Event as OfEvent, NoRoom as Full};
 
 use events::fault::Fault;
+use wire::NoRoom;
 
-#[derive(Clone, Copy)]
+#[derive(Clone, Copy, Debug, PartialEq, Eq)]
 pub enum Refusal {
     // The event did not pass the check.
     Event(Fault),
@@ -22,6 +23,14 @@ impl From<Fault> for Refusal {
 
     fn from(fault: Fault) -> Refusal {
         Refusal::Event(fault)
+    }
+}
+
+impl From<NoRoom> for Refusal {
+    ghost from_gives = { λ _ r. r ≡ Full };
+
+    fn from(_full: NoRoom) -> Refusal {
+        Refusal::NoRoom
     }
 }
 

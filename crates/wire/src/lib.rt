@@ -2,6 +2,7 @@
 #![tactic(auto)]
 
 ghost use Rattle.std.specs.Prelude.{◌≡◌, ℕ, ◌+◌, ◌-◌, ◌<◌, ◌≤◌, min, List, ◌++◌, length, drop};
+ghost use Rattle.std.specs.Result.{is_ok};
 ghost use Rattle.wire.specs.Moves.{fits, after_put, moves, filled};
 
 pub mod page;
@@ -9,6 +10,10 @@ pub mod ring;
 
 // The most bytes that one put takes.
 const MOST: usize = 512;
+
+// More bytes than are free, or than one put takes.
+#[derive(Clone, Copy, Debug, PartialEq, Eq)]
+pub struct NoRoom;
 
 pub trait Wire {
     // The bytes waiting, oldest first.
@@ -25,8 +30,9 @@ pub trait Wire {
     fn count(&self) -> usize
         ensures { result ≡ min 65536 (length (waiting self.now)) };
 
-    fn put(&mut self, bytes: &[u8]) -> bool
-        ensures value { result ≡ fits (waiting self.old) (capacity self.old) bytes.now }
+    // All of the bytes, or none.
+    fn put(&mut self, bytes: &[u8]) -> Result<(), NoRoom>
+        ensures value { is_ok result ≡ fits (waiting self.old) (capacity self.old) bytes.now }
         ensures after { waiting self.new ≡ after_put (waiting self.old) (capacity self.old) bytes.now }
         ensures capacity { capacity self.new ≡ capacity self.old };
 

@@ -1,30 +1,24 @@
 // The words of an event.
-use crate::words::{Bad, Words, read_bits, read_bytes, read_key, read_place, read_small};
+use crate::refusal::{Bad, Refusal};
+use crate::words::{Words, optional, read_bits, read_bytes, read_key, read_place, read_small};
 use input_types::event::{KeyEvent, RawKeyEvent};
 use input_types::modifiers::{KeyboardLedStatus, Modifiers};
 use input_types::phys_key_code::PhysKeyCode;
-use texts::after;
+use std::alloc::Global;
 
 #[derive(Clone, Copy)]
-pub struct PartWords<'a> {
-    pub key: &'a str,
-    pub modifiers: Modifiers,
-    pub leds: KeyboardLedStatus,
+struct PartWords<'a> {
+    key: &'a str,
+    modifiers: Modifiers,
+    leds: KeyboardLedStatus,
 }
 
 #[derive(Clone, Copy)]
-pub struct EventWords<'a> {
-    pub down: bool,
-    pub own: PartWords<'a>,
-    pub raw: Option<PartWords<'a>>,
-    pub phys: Option<PhysKeyCode>,
-}
-
-// The bytes of an event's composed keys.
-#[derive(Drop)]
-pub struct Scratch {
-    pub own: Vec<u8>,
-    pub raw: Vec<u8>,
+struct EventWords<'a> {
+    down: bool,
+    own: PartWords<'a>,
+    raw: Option<PartWords<'a>>,
+    phys: Option<PhysKeyCode>,
 }
 
 fn direction(word: &str) -> Result<bool, Bad> {
@@ -35,11 +29,11 @@ fn direction(word: &str) -> Result<bool, Bad> {
     }
 }
 
-fn part_words<'a>(words: Words<'a>) -> Result<(PartWords<'a>, Words<'a>), Bad> {
-    let (key, rest) = words.next()?;
-    let (modifiers, rest) = rest.next()?;
-    let (leds, rest) = rest.next()?;
-    let part = PartWords {
+fn part_words<'a>(words: &mut Words<'a>) -> Result<PartWords<'a>, Bad> {
+    let key = words.next()?;
+    let modifiers = words.next()?;
+    let leds = words.next()?;
+    Ok(PartWords {
         key,
         modifiers: Modifiers {
             bits: read_bits(modifiers)?,
@@ -47,24 +41,13 @@ fn part_words<'a>(words: Words<'a>) -> Result<(PartWords<'a>, Words<'a>), Bad> {
         leds: KeyboardLedStatus {
             bits: read_small(leds)?,
         },
-    };
-    Ok((part, rest))
+    })
 }
 
-pub(crate) fn optional_place(word: &str) -> Result<Option<PhysKeyCode>, Bad> {
-    if word == "-" {
-        Ok(None)
-    } else {
-        Ok(Some(read_place(word)?))
-    }
-}
-
-pub(crate) fn event_words<'a>(words: Words<'a>) -> Result<EventWords<'a>, Bad> {
-    let (way, rest) = words.next()?;
-    let down = direction(way)?;
-    let (own, rest) = part_words(rest)?;
-    let (mark, after_mark) = rest.next()?;
-    if mark == "-" && after_mark.is_done() {
+fn event_words<'a>(words: &mut Words<'a>) -> Result<EventWords<'a>, Bad> {
+    let down = direction(words.next()?)?;
+    let own = part_words(words)?;
+    if words.are_just("-") {
         return Ok(EventWords {
             down,
             own,
@@ -72,8 +55,8 @@ pub(crate) fn event_words<'a>(words: Words<'a>) -> Result<EventWords<'a>, Bad> {
             phys: None,
         });
     }
-    let (raw, rest) = part_words(rest)?;
-    let phys = optional_place(rest.last()?)?;
+    let raw = part_words(words)?;
+    let phys = optional(words.last()?, read_place)?;
     Ok(EventWords {
         down,
         own,
@@ -82,19 +65,11 @@ pub(crate) fn event_words<'a>(words: Words<'a>) -> Result<EventWords<'a>, Bad> {
     })
 }
 
-// Puts the bytes of a composed key where the key can borrow them.
-pub(crate) fn fill(key: &str, into: &mut Vec<u8>) -> Result<(), Bad> {
-    match after(key, "s:") {
-        Some(bytes) => read_bytes(bytes, into),
-        None => Ok(()),
-    }
-}
-
-pub(crate) fn fill_scratch(words: &EventWords, scratch: &mut Scratch) -> Result<(), Bad> {
-    fill(words.own.key, &mut scratch.own)?;
-    match words.raw {
-        Some(raw) => fill(raw.key, &mut scratch.raw),
-        None => Ok(()),
+// The bytes of a composed key, and none of another.
+pub(crate) fn composed_text(heap: Global, key: &str) -> Result<Vec<u8>, Bad> {
+    match key.strip_prefix("s:") {
+        Some(bytes) => read_bytes(heap, bytes),
+        None => Ok(Vec::new(heap)),
     }
 }
 
@@ -115,7 +90,7 @@ fn raw_event<'a>(
     })
 }
 
-pub(crate) fn event_of<'a>(
+fn event_of<'a>(
     words: &EventWords,
     own_text: &'a [u8],
     raw_text: &'a [u8],
@@ -133,4 +108,21 @@ pub(crate) fn event_of<'a>(
         key_is_down: words.down,
         raw,
     })
+}
+
+// Does something with the event that the words stand for, which borrows the texts of composed keys.
+pub(crate) fn with_event<F: FnOnce(KeyEvent) -> Result<(), Refusal>>(
+    heap: Global,
+    words: &mut Words,
+    put: F,
+) -> Result<(), Refusal>
+    requires { F.IsAlwaysCallable put }
+{
+    let parts = event_words(words)?;
+    let own = composed_text(heap, parts.own.key)?;
+    let raw = match parts.raw {
+        Some(raw) => composed_text(heap, raw.key)?,
+        None => Vec::new(heap),
+    };
+    put(event_of(&parts, own.as_slice(), raw.as_slice())?)
 }

@@ -3,18 +3,26 @@
 
 mod event_words;
 mod print;
+mod refusal;
 mod reports;
 mod verbs;
 mod words;
 
-use event_words::Scratch;
+use refusal::{Bad, Refusal};
+use std::alloc::Global;
 use std::io;
 use std::io::{BufRead, BufReader, BufWriter, Write};
 
-fn answer_line<W: Write>(out: &mut W, line: &[u8], scratch: &mut Scratch) -> io::Result<()> {
-    match std::str::from_utf8(line) {
-        Ok(text) => verbs::answer(out, text.trim_end(), scratch)?,
-        Err(_) => print::put_bad(out, words::Bad::Words)?,
+fn answer<W: Write>(heap: Global, out: &mut W, line: &[u8]) -> Result<(), Refusal> {
+    let text = std::str::from_utf8(line).map_err(|_| Bad::Words)?;
+    verbs::answer(heap, out, text.trim_end())
+}
+
+fn answer_line<W: Write>(heap: Global, out: &mut W, line: &[u8]) -> io::Result<()> {
+    match answer(heap, out, line) {
+        Ok(()) => {}
+        Err(Refusal::Output(fault)) => return Err(fault),
+        Err(refusal) => write!(out, "{refusal}")?,
     }
     out.write_all(b"\n")
 }
@@ -23,17 +31,13 @@ fn main(rt: HostRuntime) -> io::Result<()> {
     let heap = rt.alloc();
     let mut input = BufReader::new(heap, rt.stdin())?;
     let mut out = BufWriter::new(heap, rt.stdout())?;
-    let mut scratch = Scratch {
-        own: Vec::new(heap),
-        raw: Vec::new(heap),
-    };
     let mut line = Vec::new(heap);
     for _ in 0..u64::MAX {
         line.clear();
         if input.read_until(b'\n', &mut line)? == 0 {
             break;
         }
-        answer_line(&mut out, line.as_slice(), &mut scratch)?;
+        answer_line(heap, &mut out, line.as_slice())?;
     }
     out.flush()
 }

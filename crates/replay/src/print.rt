@@ -1,5 +1,4 @@
 // What answers are put together from.
-use crate::words::Bad;
 use input_types::event::{KeyEvent, RawKeyEvent};
 use input_types::key_code::KeyCode;
 use input_types::phys_key_code::PhysKeyCode;
@@ -8,19 +7,11 @@ use names::phys_names::phys_name;
 use std::io;
 use std::io::Write;
 
+// The digits stand in a table: with `{b:02x}` at each byte an answer takes a fifth longer.
 const HEX: [u8; 16] = *b"0123456789abcdef";
 
 pub(crate) fn put<W: Write>(out: &mut W, text: &str) -> io::Result<()> {
     out.write_all(text.as_bytes())
-}
-
-pub(crate) fn put_bad<W: Write>(out: &mut W, bad: Bad) -> io::Result<()> {
-    put(out, "bad ")?;
-    put(out, bad.reason())
-}
-
-pub(crate) fn put_declined<W: Write>(out: &mut W, number: u8, place: usize) -> io::Result<()> {
-    write!(out, "declined {number} {place}")
 }
 
 // Bytes in hex; a dash for none.
@@ -40,38 +31,28 @@ pub(crate) fn put_char<W: Write>(out: &mut W, c: char) -> io::Result<()> {
     write!(out, "{code:x}")
 }
 
-pub(crate) fn put_optional_char<W: Write>(out: &mut W, c: Option<char>) -> io::Result<()> {
-    match c {
-        Some(c) => put_char(out, c),
-        None => put(out, "none"),
+// What there is, put as it is put, or a word where there is nothing.
+pub(crate) fn put_optional<W: Write, T, F: FnOnce(&mut W, T) -> io::Result<()>>(
+    out: &mut W,
+    value: Option<T>,
+    nothing: &str,
+    put_value: F,
+) -> io::Result<()>
+    requires { F.IsAlwaysCallable put_value }
+{
+    match value {
+        Some(value) => put_value(out, value),
+        None => put(out, nothing),
     }
-}
-
-pub(crate) fn put_truth<W: Write>(out: &mut W, truth: bool) -> io::Result<()> {
-    put(out, if truth { "true" } else { "false" })
 }
 
 // A place by the name of its case: a letter is a capital, a digit stands after K.
 pub(crate) fn put_place<W: Write>(out: &mut W, place: PhysKeyCode) -> io::Result<()> {
     let name = phys_name(place);
     match name.as_bytes() {
-        [b] if b.is_ascii_digit() => {
-            put(out, "K")?;
-            put(out, name)
-        }
+        [b] if b.is_ascii_digit() => write!(out, "K{name}"),
         [b] => out.write_all(&[b.to_ascii_uppercase()]),
         _ => put(out, name),
-    }
-}
-
-pub(crate) fn put_optional_place<W: Write>(
-    out: &mut W,
-    place: Option<PhysKeyCode>,
-    otherwise: &str,
-) -> io::Result<()> {
-    match place {
-        Some(place) => put_place(out, place),
-        None => put(out, otherwise),
     }
 }
 
@@ -102,7 +83,7 @@ fn put_raw<W: Write>(out: &mut W, raw: &RawKeyEvent) -> io::Result<()> {
     let modifiers = raw.modifiers.bits;
     let leds = raw.leds.bits;
     write!(out, " {modifiers} {leds} ")?;
-    put_optional_place(out, raw.phys_code, "-")
+    put_optional(out, raw.phys_code, "-", put_place)
 }
 
 pub(crate) fn put_event<W: Write>(out: &mut W, event: &KeyEvent) -> io::Result<()> {

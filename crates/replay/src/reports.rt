@@ -1,7 +1,7 @@
 // Queries on reports: their bytes in a dialect, and what a reader reads.
-use crate::event_words::Scratch;
-use crate::print::{put, put_bad, put_bytes, put_char, put_declined};
-use crate::words::{Bad, Words, read_bits, read_bytes, read_char, read_number, read_small};
+use crate::print::{put, put_bytes, put_char, put_optional};
+use crate::refusal::{Bad, Refusal};
+use crate::words::{Words, optional, read_bits, read_bytes, read_char, read_number, read_small};
 use dialect::dialect::Dialect;
 use input_types::flags::KittyKeyboardFlags;
 use pieces::found::Seen;
@@ -12,22 +12,12 @@ use report::making::{after_escape, plain_text, sequence_of};
 use report::report::Report;
 use report::sequence::Sequence;
 use report::text::Text;
+use std::alloc::Global;
 use std::io;
 use std::io::Write;
 
 pub(crate) fn flags_in(word: &str) -> Result<KittyKeyboardFlags, Bad> {
-    match KittyKeyboardFlags::from_bits(read_bits(word)?) {
-        Some(flags) => Ok(flags),
-        None => Err(Bad::Bits),
-    }
-}
-
-fn optional_number(word: &str) -> Result<Option<u32>, Bad> {
-    if word == "-" {
-        Ok(None)
-    } else {
-        Ok(Some(read_number(word)?))
-    }
+    KittyKeyboardFlags::from_bits(read_bits(word)?).ok_or(Bad::Bits)
 }
 
 fn direction_in(word: &str) -> Result<Direction, Bad> {
@@ -54,13 +44,11 @@ fn last_in(word: &str) -> Result<Last, Bad> {
 }
 
 fn push_code(text: &mut Text, word: &str) -> Result<(), Bad> {
-    match char::from_u32(read_number(word)?) {
-        Some(c) => if text.push(c) {
-            Ok(())
-        } else {
-            Err(Bad::Report)
-        },
-        None => Err(Bad::Report),
+    let c = char::from_u32(read_number(word)?).ok_or(Bad::Report)?;
+    if text.push(c) {
+        Ok(())
+    } else {
+        Err(Bad::Report)
     }
 }
 
@@ -76,35 +64,31 @@ fn text_in(word: &str) -> Result<Text, Bad> {
     Ok(text)
 }
 
-fn sequence_in(words: Words) -> Result<Sequence, Bad> {
-    let (number, rest) = words.next()?;
-    let (shifted, rest) = rest.next()?;
-    let (base, rest) = rest.next()?;
-    let (sum, rest) = rest.next()?;
-    let (direction, rest) = rest.next()?;
-    let (last, rest) = rest.next()?;
+fn sequence_in(words: &mut Words) -> Result<Sequence, Bad> {
+    let number = words.next()?;
+    let shifted = words.next()?;
+    let base = words.next()?;
+    let sum = words.next()?;
+    let direction = words.next()?;
+    let last = words.next()?;
     let made = sequence_of(
         read_number(number)?,
-        optional_number(shifted)?,
-        optional_number(base)?,
+        optional(shifted, read_number)?,
+        optional(base, read_number)?,
         read_small(sum)?,
         direction_in(direction)?,
         last_in(last)?,
-        text_in(rest.last()?)?,
+        text_in(words.last()?)?,
     );
-    match made {
-        Some(sequence) => Ok(sequence),
-        None => Err(Bad::Report),
-    }
+    made.ok_or(Bad::Report)
 }
 
-fn report_in(words: Words) -> Result<Report, Bad> {
-    let (kind, rest) = words.next()?;
-    match kind {
-        "text" => Ok(plain_text(read_char(rest.last()?)?)),
-        "old" => Ok(after_escape(read_char(rest.last()?)?)),
-        "answer" => Ok(Report::Answer(flags_in(rest.last()?)?)),
-        "seq" => Ok(Report::Sequence(sequence_in(rest)?)),
+fn report_in(words: &mut Words) -> Result<Report, Bad> {
+    match words.next()? {
+        "text" => Ok(plain_text(read_char(words.last()?)?)),
+        "old" => Ok(after_escape(read_char(words.last()?)?)),
+        "answer" => Ok(Report::Answer(flags_in(words.last()?)?)),
+        "seq" => Ok(Report::Sequence(sequence_in(words)?)),
         _ => Err(Bad::Report),
     }
 }
@@ -112,23 +96,12 @@ fn report_in(words: Words) -> Result<Report, Bad> {
 pub(crate) fn answer_write<W: Write, D: Dialect>(
     out: &mut W,
     dialect: &D,
-    words: Words,
-) -> io::Result<()> {
-    match report_in(words) {
-        Ok(report) => {
-            let mut row = [0u8; 512];
-            let count = dialect.write(&report, &mut row);
-            put_bytes(out, &row[0..count])
-        }
-        Err(bad) => put_bad(out, bad),
-    }
-}
-
-fn put_optional<W: Write>(out: &mut W, number: Option<u32>) -> io::Result<()> {
-    match number {
-        Some(n) => write!(out, "{n} "),
-        None => put(out, "- "),
-    }
+    words: &mut Words,
+) -> Result<(), Refusal> {
+    let report = report_in(words)?;
+    let mut row = [0u8; 512];
+    let count = dialect.write(&report, &mut row);
+    Ok(put_bytes(out, &row[0..count])?)
 }
 
 fn direction_word(direction: Direction) -> &'static str {
@@ -168,10 +141,11 @@ fn put_text<W: Write>(out: &mut W, codes: &[u32]) -> io::Result<()> {
 fn put_sequence<W: Write>(out: &mut W, s: &Sequence, row: &[u32]) -> io::Result<()> {
     let number = s.number;
     write!(out, "seq {number} ")?;
-    put_optional(out, s.shifted)?;
-    put_optional(out, s.base)?;
+    put_optional(out, s.shifted, "-", |out, code| write!(out, "{code}"))?;
+    put(out, " ")?;
+    put_optional(out, s.base, "-", |out, code| write!(out, "{code}"))?;
     let sum = s.sum;
-    write!(out, "{sum} ")?;
+    write!(out, " {sum} ")?;
     put(out, direction_word(s.direction))?;
     put(out, last_word(s.last))?;
     let count = s.text.as_slice().len().min(row.len());
@@ -202,35 +176,21 @@ fn put_seen<W: Write>(out: &mut W, seen: &Seen, row: &[u32]) -> io::Result<()> {
     put_report(out, &seen.report, row)
 }
 
-fn put_read<W: Write, R: Reader>(
+pub(crate) fn answer_read<W: Write, R: Reader>(
+    heap: Global,
     out: &mut W,
     reader: &R,
-    given: &[u8],
-    room: usize,
-) -> io::Result<()> {
+    words: &mut Words,
+) -> Result<(), Refusal> {
+    let bytes = read_bytes(heap, words.next()?)?;
+    let room = read_number(words.last()?)? as usize;
     let mut row = [0u32; 64];
     let text = &mut row[0..room.min(64)];
-    match reader.read(given, text) {
-        Ok(seen) => put_seen(out, &seen, text),
-        Err(fault) => put_declined(out, fault_number(fault), 0),
-    }
-}
-
-// The bytes go to the scratch; the room for the text is answered.
-fn bytes_and_room(words: Words, scratch: &mut Scratch) -> Result<usize, Bad> {
-    let (bytes, rest) = words.next()?;
-    read_bytes(bytes, &mut scratch.own)?;
-    Ok(read_number(rest.last()?)? as usize)
-}
-
-pub(crate) fn answer_read<W: Write, R: Reader>(
-    out: &mut W,
-    reader: &R,
-    words: Words,
-    scratch: &mut Scratch,
-) -> io::Result<()> {
-    match bytes_and_room(words, scratch) {
-        Ok(room) => put_read(out, reader, scratch.own.as_slice(), room),
-        Err(bad) => put_bad(out, bad),
+    match reader.read(bytes.as_slice(), text) {
+        Ok(seen) => Ok(put_seen(out, &seen, text)?),
+        Err(fault) => Err(Refusal::Declined {
+            number: fault_number(fault),
+            place: 0,
+        }),
     }
 }

@@ -1,51 +1,14 @@
 // The words of a query: keys, places, bits, characters and bytes.
+use crate::refusal::Bad;
+use hex::FromHexError;
 use input_types::key_code::KeyCode;
 use input_types::phys_key_code::PhysKeyCode;
 use key_names::read_key_name;
 use names::phys_names::read_phys_name;
-use std::alloc::AllocFailed;
-use texts::after;
+use std::alloc::Global;
 
-// Why a query cannot be read.
-#[derive(Clone, Copy)]
-pub enum Bad {
-    Verb,
-    Words,
-    Key,
-    Place,
-    Bits,
-    Number,
-    Hex,
-    Direction,
-    Report,
-    Memory,
-}
-
-impl Bad {
-    pub(crate) fn reason(self) -> &'static str {
-        match self {
-            Bad::Verb => "verb",
-            Bad::Words => "words",
-            Bad::Key => "key",
-            Bad::Place => "place",
-            Bad::Bits => "bits",
-            Bad::Number => "number",
-            Bad::Hex => "hex",
-            Bad::Direction => "direction",
-            Bad::Report => "report",
-            Bad::Memory => "memory",
-        }
-    }
-}
-
-impl<T: Drop> From<AllocFailed<T>> for Bad {
-    fn from(_e: AllocFailed<T>) -> Bad {
-        Bad::Memory
-    }
-}
-
-// Words with a space between.
-#[derive(Clone, Copy)]
+// Words with a space between, those that are still to be read.
+#[derive(Drop)]
 pub struct Words<'a> {
     rest: &'a str,
 }
@@ -55,25 +18,24 @@ impl<'a> Words<'a> {
         Words { rest: line }
     }
 
-    pub(crate) fn is_done(&self) -> bool {
-        self.rest.is_empty()
+    // Whether this word alone is left.
+    pub(crate) fn are_just(&self, word: &str) -> bool {
+        self.rest == word
     }
 
-    // The next word and what follows it.
-    pub(crate) fn next(self) -> Result<(&'a str, Words<'a>), Bad> {
+    pub(crate) fn next(&mut self) -> Result<&'a str, Bad> {
         if self.rest.is_empty() {
             return Err(Bad::Words);
         }
-        match self.rest.split_once(' ') {
-            Some((word, rest)) => Ok((word, Words { rest })),
-            None => Ok((self.rest, Words { rest: "" })),
-        }
+        let (word, rest) = self.rest.split_once(' ').unwrap_or((self.rest, ""));
+        self.rest = rest;
+        Ok(word)
     }
 
-    // The last word.
-    pub(crate) fn last(self) -> Result<&'a str, Bad> {
-        let (word, rest) = self.next()?;
-        if rest.is_done() {
+    // The next word, behind which there is none.
+    pub(crate) fn last(&mut self) -> Result<&'a str, Bad> {
+        let word = self.next()?;
+        if self.rest.is_empty() {
             Ok(word)
         } else {
             Err(Bad::Words)
@@ -81,75 +43,65 @@ impl<'a> Words<'a> {
     }
 }
 
-fn hex_digit(b: u8) -> Result<u8, Bad> {
-    match b {
-        b'0'..=b'9' => Ok(b - b'0'),
-        b'a'..=b'f' => Ok(b - b'a' + 10),
-        b'A'..=b'F' => Ok(b - b'A' + 10),
-        _ => Err(Bad::Hex),
+// What a word stands for, where a dash stands for nothing.
+pub(crate) fn optional<T, F: FnOnce(&str) -> Result<T, Bad>>(
+    word: &str,
+    read: F,
+) -> Result<Option<T>, Bad>
+    requires { F.IsAlwaysCallable read }
+{
+    if word == "-" {
+        Ok(None)
+    } else {
+        Ok(Some(read(word)?))
     }
 }
 
-// Bytes in hex go to `into`; a dash stands for none.
-pub(crate) fn read_bytes(word: &str, into: &mut Vec<u8>) -> Result<(), Bad> {
-    into.clear();
+// Bytes in hex; a dash stands for none.
+pub(crate) fn read_bytes(heap: Global, word: &str) -> Result<Vec<u8>, Bad> {
     if word == "-" {
-        return Ok(());
+        return Ok(Vec::new(heap));
     }
-    let mut high: Option<u8> = None;
-    for b in word.bytes() {
-        let digit = hex_digit(b)?;
-        match high {
-            Some(first) => {
-                into.push(first.wrapping_mul(16).wrapping_add(digit))?;
-                high = None;
-            }
-            None => high = Some(digit),
-        }
-    }
-    match high {
-        Some(_) => Err(Bad::Hex),
-        None => Ok(()),
-    }
+    hex::decode(heap, word).map_err(|fault| match fault {
+        FromHexError::OutOfMemory => Bad::Memory,
+        _ => Bad::Hex,
+    })
 }
 
 // A character by its code in hex.
 pub(crate) fn read_char(word: &str) -> Result<char, Bad> {
-    let mut code: u32 = 0;
-    for b in word.bytes() {
-        let digit = hex_digit(b)?;
-        if code > 0x10ffff {
-            return Err(Bad::Hex);
-        }
-        code = code.wrapping_mul(16).wrapping_add(digit as u32);
-    }
-    char::from_u32(code).ok_or(Bad::Hex)
+    let code = word.chars().try_fold(0u32, |code, c| {
+        code.checked_mul(16)?.checked_add(c.to_digit(16)?)
+    });
+    code.and_then(char::from_u32).ok_or(Bad::Hex)
+}
+
+pub(crate) fn read_number(word: &str) -> Result<u32, Bad> {
+    word.parse().map_err(|_| Bad::Number)
+}
+
+pub(crate) fn read_small(word: &str) -> Result<u8, Bad> {
+    word.parse().map_err(|_| Bad::Number)
+}
+
+pub(crate) fn read_bits(word: &str) -> Result<u16, Bad> {
+    word.parse().map_err(|_| Bad::Bits)
 }
 
 // A key whose text, if it is composed, is in `text`.
 pub(crate) fn read_key<'a>(word: &str, text: &'a [u8]) -> Result<KeyCode<'a>, Bad> {
-    if let Some(code) = after(word, "c:") {
-        return Ok(KeyCode::Char(read_char(code)?));
+    match word.split_once(':') {
+        Some(("c", code)) => Ok(KeyCode::Char(read_char(code)?)),
+        Some(("s", _)) => Ok(KeyCode::Composed(text)),
+        Some(("p", place)) => Ok(KeyCode::Physical(read_place(place)?)),
+        Some(("r", number)) => Ok(KeyCode::RawCode(read_number(number)?)),
+        Some(("n", number)) => Ok(KeyCode::Numpad(read_small(number)?)),
+        Some(("f", number)) => Ok(KeyCode::Function(read_small(number)?)),
+        _ => read_plain_key(word),
     }
-    if let Some(_bytes) = after(word, "s:") {
-        return Ok(KeyCode::Composed(text));
-    }
-    if let Some(place) = after(word, "p:") {
-        return Ok(KeyCode::Physical(read_place(place)?));
-    }
-    read_plain_key(word)
 }
 
 fn read_plain_key(word: &str) -> Result<KeyCode<'static>, Bad> {
-    if let Some(number) = after(word, "r:") {
-        return Ok(KeyCode::RawCode(read_number(number)?));
-    }
-    if let Some(number) = after(word, "n:") {
-        return Ok(KeyCode::Numpad(read_small(number)?));
-    }
-    if let Some(number) = after(word, "f:") {
-        return Ok(KeyCode::Function(read_small(number)?));
-    }
     match word {
         "KeyPadHome" => Ok(KeyCode::KeyPadHome),
         "KeyPadEnd" => Ok(KeyCode::KeyPadEnd),
@@ -163,48 +115,27 @@ fn read_plain_key(word: &str) -> Result<KeyCode<'static>, Bad> {
 // A key that is named as its case is.
 fn by_own_name(word: &str) -> Result<KeyCode<'static>, Bad> {
     match read_key_name(word.as_bytes()) {
-        Ok(KeyCode::Char(_)) | Ok(KeyCode::Numpad(_)) | Ok(KeyCode::Function(_)) => Err(Bad::Key),
+        Ok(KeyCode::Char(_) | KeyCode::Numpad(_) | KeyCode::Function(_)) | Err(_) => Err(Bad::Key),
         Ok(key) => Ok(key),
-        Err(_) => Err(Bad::Key),
-    }
-}
-
-pub(crate) fn read_number(word: &str) -> Result<u32, Bad> {
-    match word.parse::<u32>() {
-        Ok(n) => Ok(n),
-        Err(_) => Err(Bad::Number),
-    }
-}
-
-pub(crate) fn read_small(word: &str) -> Result<u8, Bad> {
-    match word.parse::<u8>() {
-        Ok(n) => Ok(n),
-        Err(_) => Err(Bad::Number),
-    }
-}
-
-pub(crate) fn read_bits(word: &str) -> Result<u16, Bad> {
-    match word.parse::<u16>() {
-        Ok(n) => Ok(n),
-        Err(_) => Err(Bad::Bits),
     }
 }
 
 // A place by the name of its case: a letter is a capital, a digit stands after K.
 pub(crate) fn read_place(word: &str) -> Result<PhysKeyCode, Bad> {
     match word {
-        "F21" => return Ok(PhysKeyCode::F21),
-        "F22" => return Ok(PhysKeyCode::F22),
-        "F23" => return Ok(PhysKeyCode::F23),
-        "F24" => return Ok(PhysKeyCode::F24),
-        _ => {}
+        "F21" => Ok(PhysKeyCode::F21),
+        "F22" => Ok(PhysKeyCode::F22),
+        "F23" => Ok(PhysKeyCode::F23),
+        "F24" => Ok(PhysKeyCode::F24),
+        _ => by_read_name(word),
     }
-    let name = match after(word, "K") {
+}
+
+// A place whose name can be read.
+fn by_read_name(word: &str) -> Result<PhysKeyCode, Bad> {
+    let name = match word.strip_prefix("K") {
         Some(digit) if digit.len() == 1 => digit,
         _ => word,
     };
-    match read_phys_name(name.as_bytes()) {
-        Ok(place) => Ok(place),
-        Err(_) => Err(Bad::Place),
-    }
+    read_phys_name(name.as_bytes()).map_err(|_| Bad::Place)
 }

@@ -1,0 +1,59 @@
+// Why a query gets a refusal in place of an answer.
+use events::fault::Fault;
+use names::fault::NameFault;
+use std::io;
+use thiserror::Error;
+
+// Why a query cannot be read.
+#[derive(Clone, Copy, Debug, Error)]
+pub enum Bad {
+    #[error("verb")]
+    Verb,
+    #[error("words")]
+    Words,
+    #[error("key")]
+    Key,
+    #[error("place")]
+    Place,
+    #[error("bits")]
+    Bits,
+    #[error("number")]
+    Number,
+    #[error("hex")]
+    Hex,
+    #[error("direction")]
+    Direction,
+    #[error("report")]
+    Report,
+    #[error("memory")]
+    Memory,
+}
+
+#[derive(Debug, Drop, Error)]
+pub enum Refusal {
+    #[error("bad {0}")]
+    Bad(#[from] Bad),
+    // What the library refuses, by its number and place.
+    #[error("declined {number} {place}")]
+    Declined { number: u8, place: usize },
+    #[error("the answer cannot be written")]
+    Output(#[from] io::Error),
+}
+
+impl From<NameFault> for Refusal {
+    fn from(fault: NameFault) -> Refusal {
+        Refusal::Declined {
+            number: fault.number(),
+            place: fault.place(),
+        }
+    }
+}
+
+impl From<Fault> for Refusal {
+    fn from(fault: Fault) -> Refusal {
+        Refusal::Declined {
+            number: fault.number(),
+            place: fault.place(),
+        }
+    }
+}

@@ -7,7 +7,7 @@ ghost use Rattle.std.specs.Str.{chars as decodes};
 ghost use Rattle.texts.specs.Texts.{utf8, front, allowed, blank, follows, only, place_after, trim};
 
 // Bytes that are no UTF-8, and how many of them are before the first that is wrong.
-#[derive(Clone, Copy)]
+#[derive(Clone, Copy, Debug, PartialEq, Eq)]
 pub struct NotText {
     pub place: usize,
 }
@@ -16,12 +16,9 @@ pub struct NotText {
 pub fn checked(bytes: &[u8]) -> Result<&str, NotText>
     ensures { MatchResult result (λ s. (s.now ≡ bytes.now) × (utf8 bytes.now ≡ true)) (λ e. (utf8 bytes.now ≡ false) × (e.place ≡ front (length bytes.now) bytes.now)) }
 {
-    match std::str::from_utf8(bytes) {
-        Ok(text) => Ok(text),
-        Err(fault) => Err(NotText {
-            place: fault.valid_up_to(),
-        }),
-    }
+    std::str::from_utf8(bytes).map_err(|fault| NotText {
+        place: fault.valid_up_to(),
+    })
 }
 
 // Whether a character can be a key: those from U+E000 to U+F8FF stand for other keys.
@@ -54,14 +51,7 @@ pub fn only_char(text: &str) -> Option<char>
 pub fn char_past(text: &str, limit: u8) -> Option<usize>
     ensures { result ≡ place_after 0 limit (decodes text.now) }
 {
-    let mut left = limit;
-    for (i, _c) in text.char_indices() {
-        if left == 0 {
-            return Some(i);
-        }
-        left -= 1;
-    }
-    None
+    text.char_indices().nth(limit as usize).map(|(i, _)| i)
 }
 
 // The text without the white space around it, and how many bytes of white space stand before it.

@@ -1,25 +1,12 @@
-use Rattle.std.proofs.Common.{◌<◌, length, sym, ap, ◌∙◌, arith, length-append}
-use lib.Utf8.{encode}
-use Rattle.std.proofs.lemmas.Str.{IsUtf8-past_char}
-use Rattle.std.specs.Str.Iter.{char_indices_rest, char_indices_offset}
-use Rattle.texts.proofs.Places.{here, further, nothing}
+use Rattle.std.proofs.Common.{◌≡◌, ◌∙◌, rules}
+use Rattle.std.specs.Option.{option_map}
+use Rattle.texts.proofs.Places.{passed}
 use Rattle.texts.proofs.char_past.Goals as goal
-
-pub returns-then-left-eq0 : goal.returns-then-left-eq0
-returns-then-left-eq0 c =
-    let h = c.in-Some.ensures.steps in
-    let s = here (char_indices_offset c.loop-i.i-iterator) c.in-Some._c (char_indices_rest c.loop-i.i-iterator) (char_indices_rest c.next.new.self) c.loop-i.invariant.1 h.1 in
-    rw (h.0, ← c.loop-i.invariant.0, c.if-left-eq0.true) (sym s)
-
-pub loop-i-preserved : goal.loop-i-preserved
-loop-i-preserved c =
-    let h = c.in-Some.ensures.steps in
-    let p : 0 < c.loop-i.left = omega arith in
-    let s = further (char_indices_offset c.loop-i.i-iterator) c.in-Some._c (char_indices_rest c.loop-i.i-iterator) (char_indices_rest c.next.new.self) c.loop-i.invariant.1 h.1 c.loop-i.left p in
-    let t = rw (← h.2) at s in
-    let n = ap length h.1 ∙ length-append (encode c.in-Some._c) (char_indices_rest c.next.new.self) in
-    (sym t ∙ c.loop-i.invariant.0, IsUtf8-past_char _ _ c.in-Some._c c.loop-i.invariant.1 h.1, omega (arith, n, h.2, c.loop-i.invariant.2))
 
 pub returns : goal.returns
 returns c =
-    sym (nothing (char_indices_offset c.loop-i.i-iterator) c.loop-i.left (char_indices_rest c.loop-i.i-iterator) c.in-None.ensures.steps.0) ∙ c.loop-i.invariant.0
+    let m : c.map.result ≡ option_map (λ p. p.0) c.nth.result = search rules in
+    let r = c.nth.ensures.ran in
+    let start = c.char_indices.ensures in
+    let p = passed c.char_indices.result r.1.0 c.nth.new.self c.args.limit r.0 c.nth.result (rw start.rest (search rules)) r.1.1 r.1.2 r.2 in
+    m ∙ rw (start.rest, start.offset) at p

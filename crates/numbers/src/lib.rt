@@ -4,7 +4,7 @@
 ghost use Rattle.std.specs.Prelude.{◌≡◌, Ok};
 ghost use Rattle.numbers.specs.Numbers.{with_digit, digits_from, number_of, placed, within, refusal};
 
-#[derive(Clone, Copy)]
+#[derive(Clone, Copy, Debug, PartialEq, Eq)]
 pub enum NumberKind {
     Empty,
     NotDigit,
@@ -15,7 +15,7 @@ pub enum NumberKind {
 }
 
 // What is wrong with a number, and where its first byte stands.
-#[derive(Clone, Copy)]
+#[derive(Clone, Copy, Debug, PartialEq, Eq)]
 pub struct NumberFault {
     pub kind: NumberKind,
     pub place: usize,
@@ -37,14 +37,11 @@ impl NumberFault {
 fn add_digit(n: u8, b: u8) -> Result<u8, NumberKind>
     ensures { result ≡ with_digit n b }
 {
-    if b < b'0' || b > b'9' {
+    if !b.is_ascii_digit() {
         return Err(NumberKind::NotDigit);
     }
-    let next = n as u16 * 10 + (b - b'0') as u16;
-    if next > 255 {
-        return Err(NumberKind::TooBig);
-    }
-    Ok(next as u8)
+    let tens = n.checked_mul(10).ok_or(NumberKind::TooBig)?;
+    tens.checked_add(b - b'0').ok_or(NumberKind::TooBig)
 }
 
 // The number that digits write; the first byte that is none, or that makes it pass 255, ends it.
@@ -73,10 +70,7 @@ fn number(text: &[u8]) -> Result<u8, NumberKind>
 pub fn read_u8(text: &[u8], place: usize) -> Result<u8, NumberFault>
     ensures { result ≡ placed place (number_of text.now) }
 {
-    match number(text) {
-        Ok(n) => Ok(n),
-        Err(kind) => Err(NumberFault { kind, place }),
-    }
+    number(text).map_err(|kind| NumberFault { kind, place })
 }
 
 // A number from `low` to `high`.

@@ -6,7 +6,7 @@ ghost use Rattle.names.specs.Refusals.{refusal_of, place_of};
 use numbers::NumberFault;
 use texts::NotText;
 
-#[derive(Clone, Copy)]
+#[derive(Clone, Copy, Debug, PartialEq, Eq)]
 pub enum NameFault {
     // The bytes are no text from this place on.
     NotUtf8(usize),

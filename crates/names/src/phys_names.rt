@@ -12,7 +12,7 @@ use input_types::phys_key_code::PhysKeyCode;
 use tables::{Named, find};
 use texts::checked;
 
-// The names that can be read. A letter has two, of which the small one is written.
+// The names that can be read, in a constant table since keys are named without a heap. A letter has two, of which the small one is written.
 static PHYS_NAMES: [Named<PhysKeyCode>; 142] = [
     Named("a", PhysKeyCode::A),
     Named("A", PhysKeyCode::A),
@@ -167,11 +167,10 @@ static UNREAD_PHYS_NAMES: [Named<PhysKeyCode>; 4] = [
 ];
 
 // No two places have one name, and the name that is written of a place is that place's.
-pub fn phys_names_hold() -> u8
+pub fn phys_names_hold()
     ensures apart { Table (places ++ unread_places) }
     ensures own { PlacesNamed }
 {
-    0
 }
 
 fn place_in_table(name: &str) -> Option<PhysKeyCode>
@@ -196,18 +195,12 @@ fn unread_name(key: PhysKeyCode) -> Option<&'static str>
 pub fn phys_name(key: PhysKeyCode) -> &'static str
     ensures { result.now ≡ place_name key }
 {
-    match read_name(key) {
-        Some(name) => name,
-        None => unread_name(key).unwrap_or(""),
-    }
+    read_name(key).or(unread_name(key)).unwrap_or("")
 }
 
 // The key at the place that bears a name.
 pub fn read_phys_name(bytes: &[u8]) -> Result<PhysKeyCode, NameFault>
     ensures { result ≡ of_text place_named bytes.now }
 {
-    match place_in_table(checked(bytes)?) {
-        Some(key) => Ok(key),
-        None => Err(NameFault::Unknown(0)),
-    }
+    place_in_table(checked(bytes)?).ok_or(NameFault::Unknown(0))
 }

@@ -9,7 +9,7 @@ use input_types::key_code::KeyCode;
 use input_types::phys_key_code::PhysKeyCode;
 use tables::Named;
 
-// A type whose variants have numbers, whatever they hold.
+// A type whose variants have numbers, whatever they hold: there is no `mem::discriminant`, and `==` would compare what they hold too.
 pub trait Variant {
     ghost variant: { Self → ℕ };
 
@@ -21,6 +21,7 @@ pub trait Variant {
 pub fn name_of<T: Variant>(table: &[Named<T>], value: &T) -> Option<&'static str>
     ensures { option_map (λ x. x.now) result ≡ name_for T.Variant.variant (entries table.now) (T.Variant.variant value.now) }
 {
+    // A loop, as in `tables::find`: a chain's closure would borrow the value.
     for e in table {
         if e.1.variant_number() == value.variant_number() {
             return Some(e.0);

@@ -102,11 +102,10 @@ static UNREAD_KEY_NAMES: [Named<KeyCode<'static>>; 5] = [
 ];
 
 // No two keys have one name, and the name that is written of a key is that key's.
-pub fn key_names_hold() -> u8
+pub fn key_names_hold()
     ensures apart { Table (keys ++ unread_keys) }
     ensures own { KeysNamed }
 {
-    0
 }
 
 fn key_in_table(name: &str) -> Option<KeyCode<'static>>
@@ -118,10 +117,7 @@ fn key_in_table(name: &str) -> Option<KeyCode<'static>>
 fn single_char(name: &str) -> Result<KeyCode<'static>, NameFault>
     ensures { result ≡ single (chars name.now) }
 {
-    match only_char(name) {
-        Some(c) => char_key(c),
-        None => Err(NameFault::Unknown(0)),
-    }
+    char_key(only_char(name).ok_or(NameFault::Unknown(0))?)
 }
 
 fn key_of_name(name: &str) -> Result<KeyCode<'static>, NameFault>
@@ -163,8 +159,5 @@ fn unread_name(key: KeyCode<'_>) -> Option<&'static str>
 pub fn plain_name(key: KeyCode<'_>) -> &'static str
     ensures { result.now ≡ plain_name key.entry }
 {
-    match read_name(key) {
-        Some(name) => name,
-        None => unread_name(key).unwrap_or(""),
-    }
+    read_name(key).or(unread_name(key)).unwrap_or("")
 }

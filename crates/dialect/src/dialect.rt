@@ -8,7 +8,8 @@ pub trait Dialect {
     // The bytes of a report.
     ghost bytes: { Self → Meaning → List ℕ };
 
-    // Writes the report's bytes to the front of `out`, whose rest stays, and answers how many.
+    // Writes the report's bytes to the front of `out`, whose rest stays, and answers how many. The caller lends the
+    // row, since a key allocates nothing.
     fn write(&self, report: &Report, out: &mut [u8; 512]) -> usize
         ensures count { result ≡ length (bytes self.now (means report.now)) }
         ensures after { out.new ≡ bytes self.now (means report.now) ++ drop result out.old };

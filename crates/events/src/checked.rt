@@ -1,4 +1,5 @@
-// An event that passed the check, with its text read as text once.
+// An event that passed the check, with its text read as text once. What it shows is a function of its fields: a type
+// that is copied and borrows can have no model.
 ghost use Rattle.std.specs.Prelude.{◌≡◌, true};
 ghost use Rattle.events.specs.Kinds.{kind_of};
 ghost use Rattle.events.specs.Events.{plain_event};

@@ -28,7 +28,8 @@ fn is_unnamed(modifiers: Modifiers, leds: KeyboardLedStatus) -> bool
     !(modifiers.is_named() && leds.is_named())
 }
 
-// The text of a key, which is empty unless the key is composed, or the first fault.
+// The text of a key, which is empty unless the key is composed, or the first fault. Modifiers and lights come apart, as
+// the Rust's two events hold them.
 fn check_part<'a>(
     kind: Kind<'a>,
     modifiers: Modifiers,

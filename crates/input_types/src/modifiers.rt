@@ -46,7 +46,8 @@ impl Modifiers {
 
     pub const ENHANCED_KEY: Modifiers = Modifiers { bits: 1 << 12 };
 
-    // Whether all modifiers of the other are among these.
+    // Whether all modifiers of the other are among these. One line in each of the three sets of bits: a trait
+    // for it would be longer.
     pub fn contains(self, other: Modifiers) -> bool
         ensures { result ≡ holds self.bits other.bits }
     {

@@ -1,4 +1,5 @@
-// The characters that a key press typed: at most 32, at the front of a fixed row.
+// The characters that a key press typed: at most 32, at the front of a fixed row. A row with its count beside it,
+// since a key allocates nothing, and a report is copied as it is.
 ghost use Rattle.std.specs.Prelude.{◌≡◌, ◌≤◌, true, length, take};
 ghost use Rattle.std.proofs.Math.Utf8.{scalars};
 ghost use Rattle.report.specs.Pushes.{Pushed};
@@ -22,7 +23,8 @@ impl Text {
         }
     }
 
-    // Adds a character at the end; false, and nothing changed, where there are 32.
+    // Adds a character at the end; false, and nothing changed, where there are 32. No more is to be told, and
+    // most callers know that there is room: a Result would only be let go.
     pub fn push(&mut self, c: char) -> bool
         ensures { Pushed c self.old.count (take self.old.count self.old.codes) self.new.count (take self.new.count self.new.codes) result }
     {

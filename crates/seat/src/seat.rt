@@ -1,4 +1,4 @@
-// A seat over a wire, a layout and a dialect.
+// A seat over a wire, a layout and a dialect. What it shows, `view_of`, holds functions, so that it cannot be a model.
 use settings::settings::Settings;
 
 #[derive(Drop)]

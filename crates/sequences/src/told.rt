@@ -12,7 +12,7 @@ pub struct Told {
     pub next: usize,
 }
 
-// What stands before the text of a sequence.
+// What stands before the text of a sequence, in range before the rest is read.
 #[derive(Clone, Copy)]
 pub struct Head {
     pub number: u32,

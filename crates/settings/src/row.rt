@@ -1,4 +1,4 @@
-// One to eight settings, the last in force.
+// One to eight settings, the last in force: an array and a count, which are copied and allocate nothing.
 ghost use Rattle.std.specs.Prelude.{◌≡◌, ◌≤◌, [], ◌∷◌};
 ghost use Rattle.settings.specs.Stack.{top_of, pushed, popped, topped};
 

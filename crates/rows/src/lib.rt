@@ -6,5 +6,4 @@ ghost use Rattle.rows.specs.Rows.{Rows};
 // Each row follows from the definitions of the check, the rules, the dialect and the names.
 pub fn rows_stand()
     ensures { Rows }
-{
-}
+{}

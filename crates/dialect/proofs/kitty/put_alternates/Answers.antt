@@ -1,4 +1,4 @@
-use Rattle.std.proofs.Common.{sym, ap, arith}
+use Rattle.std.proofs.Common.{sym, ap}
 use Rattle.dialect.specs.KittyBytes.{alternates}
 use Rattle.dialect.proofs.Writing.{writes_as, writes_more}
 use Rattle.dialect.proofs.kitty.put_alternates.Goals as goal

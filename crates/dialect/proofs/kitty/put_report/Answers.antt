@@ -1,4 +1,4 @@
-use Rattle.std.proofs.Common.{ℕ, List, [], ◌∷◌, ◌++◌, decimal, sym, ap, ◌∙◌, arith}
+use Rattle.std.proofs.Common.{[], ◌∷◌, ◌++◌, decimal, sym, ap, ◌∙◌, arith}
 use Rattle.dialect.specs.KittyBytes.{kitty_bytes}
 use Rattle.report.specs.Meanings.{means}
 use Rattle.dialect.proofs.Writing.{writes_as, writes_more, writes_put}

@@ -1,7 +1,7 @@
 use Rattle.std.proofs.Common.{get_or, drop, sym, subst, inl, inr, arith}
-use Rattle.pieces.specs.Languages.{Takes, whole, part, nothing}
+use Rattle.pieces.specs.Languages.{Takes, part, nothing}
 use Rattle.pieces.specs.Letters.{Two, Three, Four, Characters}
-use Rattle.pieces.proofs.LetterLaws.{none, from_1, form_two, form_three, form_four, letter_empty, letter_none, escape_none, one_whole, spells_as}
+use Rattle.pieces.proofs.LetterLaws.{none, from_1, form_two, form_three, form_four, letter_empty, letter_none, escape_none, spells_as}
 use Rattle.pieces.proofs.letters.read_letter.Goals as goal
 
 pub returns-in_default : goal.returns-in_default

@@ -1,4 +1,4 @@
-use Rattle.std.proofs.Common.{Some, None, arith, rules}
+use Rattle.std.proofs.Common.{Some, None, rules}
 use Rattle.sequences.proofs.Heads.{started}
 use Rattle.sequences.proofs.Telling.{stage_break, stage_goes, stage_stops}
 use Rattle.sequences.proofs.SequenceLaws.{base_stage, base_none}

@@ -1,4 +1,4 @@
-use Rattle.std.proofs.Common.{Some, None, refl, subst, arith, rules}
+use Rattle.std.proofs.Common.{Some, None, refl, subst, rules}
 use Rattle.sequences.specs.Parts.{AtSum, Tells}
 use Rattle.sequences.proofs.Heads.{started}
 use Rattle.sequences.proofs.Telling.{stage_break, stage_goes, stage_stops}

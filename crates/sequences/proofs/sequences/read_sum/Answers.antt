@@ -1,6 +1,5 @@
-use Rattle.std.proofs.Common.{◌-◌, Some, None, refl, arith, rules}
+use Rattle.std.proofs.Common.{◌-◌, Some, None, refl, rules}
 use Rattle.report.specs.declared.ending.Direction.TheVariants.{Press}
-use Rattle.sequences.specs.Leads.{lead}
 use Rattle.sequences.specs.Parts.{AtClosing, after_sum, headed}
 use Rattle.sequences.proofs.Heads.{started}
 use Rattle.sequences.proofs.Telling.{stage_break, stage_goes, stage_stops, tells_same}

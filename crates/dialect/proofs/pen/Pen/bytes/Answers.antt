@@ -1,4 +1,4 @@
-use Rattle.std.proofs.Common.{◌≡◌, ◌+◌, ◌≤◌, length, refl, arith, rules, sym, ◌∙◌, ap}
+use Rattle.std.proofs.Common.{◌≡◌, length, refl, arith, rules}
 use Rattle.dialect.proofs.Writing.{put_mid_puts}
 use Rattle.dialect.proofs.pen.Pen.bytes.Goals as goal
 

@@ -1,6 +1,5 @@
-use Rattle.std.proofs.Common.{◌≡◌, ◌≤◌, length, decimal, sym, ◌∙◌, arith}
+use Rattle.std.proofs.Common.{◌≤◌, length, ◌∙◌, arith}
 use Rattle.dialect.specs.Numbers.{code_short}
-use Rattle.dialect.specs.Puts.{Writes}
 use Rattle.dialect.proofs.Writing.{writes_as, writes_put}
 use Rattle.dialect.proofs.pen.Pen.code.Goals as goal
 

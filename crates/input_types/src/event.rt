@@ -130,10 +130,7 @@ impl RawKeyEvent<'_> {
             RightControl => 57448,
             RightAlt => 57449,
             RightWindows => 57450,
-            _ => match self.phys_code {
-                Some(p) => return code_by_phys(p),
-                None => return None,
-            },
+            _ => return code_by_phys(self.phys_code?),
         })
     }
 }

@@ -6,8 +6,5 @@ use crate::found::Fault;
 pub fn octet(bytes: &[u8], at: usize) -> Result<u8, Fault>
     ensures { SaysOctet bytes.now at result }
 {
-    match bytes.get(at) {
-        Some(b) => Ok(*b),
-        None => Err(Fault::Short),
-    }
+    bytes.get(at).copied().ok_or(Fault::Short)
 }

@@ -1,4 +1,5 @@
-// Reads what follows ESC [, part by part.
+// Reads what follows ESC [, part by part. The bytes and a place go from part to part, since a slice alone would lose the
+// place, which is told at the end.
 ghost use Rattle.std.specs.Prelude.{◌≤◌, [], length};
 ghost use Rattle.report.specs.Meanings.{characters};
 ghost use Rattle.sequences.specs.Leads.{lead};

@@ -1,6 +1,6 @@
 -- The bytes of a seat have one reading.
 use Rattle.std.specs.Prelude.{◌≡◌, ℕ, ◌≤◌, true, List, [], ◌∷◌, ◌++◌, map, length, Some}
-use Rattle.std.specs.List.{flat_map}
+use Rattle.std.specs.List.{AllByRecursion, flat_map}
 use Rattle.input_types.specs.Bits.{holds, disambiguate}
 use Rattle.report.specs.Meanings.{Meaning, Valid, Clear}
 use Rattle.events.specs.Events.{PlainEvent, sum, direction}
@@ -10,10 +10,6 @@ use Rattle.rules.specs.Laws.{Told, Own, CharacterKey, Fixed, OffKeypad, Lawful}
 use Rattle.dialect.specs.Streams.{AllClear}
 use Rattle.settings.specs.Stack.{Stacks}
 use Rattle.plain_seat.specs.Plain.{Terms, Call, Reply, Entry, Keyed, Asked, Plain, outcome, start, after, replies, reports_of, said}
-
-abbrev pub All : {X : Type 0} → (X → Type 0) → List X → Type 0
-All P [] = Unit {0}
-All P (x ∷ xs) = P x × All P xs
 
 -- One call of a history: what was asked, what was answered, and the bytes moved.
 pub record Turn : Type 0 where
@@ -76,12 +72,12 @@ pub record OneReading (v : View) (h : List Turn) : Type 0 where
   pub count : length v.waiting ≡ (plainly v h).count
   -- the bytes drained, then those waiting, are the bytes of the reports told, in order
   pub bytes : all_bytes v h ≡ flat_map v.terms.bytes (told v h)
-  pub sound : All (Sound v.terms.base) (plainly v h).log
+  pub sound : AllByRecursion (Sound v.terms.base) (plainly v h).log
   -- and where escape codes were disambiguated at every accepted key, they have one reading
-  pub clear : All Marked (plainly v h).log → AllClear (told v h)
-  pub unique : All Marked (plainly v h).log → (ms : List Meaning) → AllClear ms → flat_map v.terms.bytes ms ≡ all_bytes v h → ms ≡ told v h
-  pub numbers : All (Numbered v.terms.base) (plainly v h).log
-  pub apart : All (λ x. All (Apart v.terms x) (plainly v h).log) (plainly v h).log
+  pub clear : AllByRecursion Marked (plainly v h).log → AllClear (told v h)
+  pub unique : AllByRecursion Marked (plainly v h).log → (ms : List Meaning) → AllClear ms → flat_map v.terms.bytes ms ≡ all_bytes v h → ms ≡ told v h
+  pub numbers : AllByRecursion (Numbered v.terms.base) (plainly v h).log
+  pub apart : AllByRecursion (λ x. AllByRecursion (Apart v.terms x) (plainly v h).log) (plainly v h).log
 
 -- What one call does: it is the plain seat's step, and it hands on the bytes in order.
 pub record Steps (v : View) (c : Call) (r : Reply) (bs : List ℕ) (w : View) : Type 0 where
@@ -90,7 +86,7 @@ pub record Steps (v : View) (c : Call) (r : Reply) (bs : List ℕ) (w : View) : 
   pub reply : r ≡ (outcome v.terms v.stacks (length v.waiting) c).reply
   pub bytes : bs ++ w.waiting ≡ v.waiting ++ flat_map (said v.terms) (outcome v.terms v.stacks (length v.waiting) c).log
   pub taken : length bs ≡ (outcome v.terms v.stacks (length v.waiting) c).taken
-  pub sound : All (Sound v.terms.base) (outcome v.terms v.stacks (length v.waiting) c).log
+  pub sound : AllByRecursion (Sound v.terms.base) (outcome v.terms v.stacks (length v.waiting) c).log
 
 abbrev pub turn : Call → Reply → List ℕ → Turn
 turn c r bs = record { call = c; reply = r; bytes = bs }

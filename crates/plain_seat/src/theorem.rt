@@ -2,8 +2,6 @@
 ghost use Rattle.plain_seat.specs.Reading.{CallsGoOn};
 
 // What a call does as the plain seat's step goes on from every history.
-pub fn calls_go_on() -> u8
+pub fn calls_go_on()
     ensures { CallsGoOn }
-{
-    0
-}
+{}

@@ -8,5 +8,3 @@ use Rattle.frame_reading.proofs.bodies.read_flags.Goals as goal
 pub returns-in_err-n : goal.returns-in_err-n
 returns-in_err-n c = chain_break flags_chain (λ (b : ℕ). b) (λ _. c.args.at + 1) (λ (x : Seen). means x.report) (λ x. x.length) c.args.bytes.now c.args.at c.from_residual.result c.in_err-n.field-0.0 c.from_residual.ensures.1 c.in_err-n.ensures
 
-pub returns-in_default : goal.returns-in_default
-returns-in_default c = chain_stop flags_chain (λ (b : ℕ). b) (λ _. c.args.at + 1) (λ (x : Seen). means x.report) (λ x. x.length) c.args.bytes.now c.args.at c.in_ok-n.n c.in_ok-n.ensures c.in_ok-n.n refl (λ m s q. omega (arith, q.0, c.in_default.ensures))

@@ -17,12 +17,6 @@ use Rattle.sequences.proofs.sequences.read_text.Goals as goal
 next : (h : Lead) (t : Text) → Started h → t.count < 32 → Stage Code (AtText h (characters t)) (after_character h (characters t))
 next h t a l = text_stage h (characters t) a t.characters (omega (arith, length-characters t))
 
-pub loop-init : goal.loop-init
-loop-init c = (c.none-text.ensures, λ r p. subst (λ cs. Tells (AtText (lead c.args.head) cs) c.args.bytes.now c.args.at r) (none c.none-text.result c.none-text.ensures) p)
-  where
-    none : (t : Text) → t.count ≡ 0 → characters t ≡ []
-    none t e = search arith
-
 pub returns-in_err-e : goal.returns-in_err-e
 returns-in_err-e c =
     let v = c.loop.invariant in
@@ -35,18 +29,6 @@ returns-in_default c =
     let l : c.loop.text.count < 32 = omega (arith, v.0) in
     let e = c.in_ok-e.e in
     v.1 (Err Unknown) (stage_stops (next (lead c.args.head) c.loop.text (started c.args.head) l) c.args.bytes.now c.loop.next e c.in_ok-e.ensures e.value refl (text_strange (lead c.args.head) (characters c.loop.text) e.value e.mark c.in_default.ensures))
-
-pub returns-in-117 : goal.returns-in-117
-returns-in-117 c =
-    let v = c.loop.invariant in
-    let l : c.loop.text.count < 32 = omega (arith, v.0) in
-    let h = lead c.args.head in
-    let e = c.in_ok-e.e in
-    let cs = characters c.loop.text in
-    let q = pushed c.in-Some.c c.loop.text.count c.push.new.self.count cs (characters c.push.new.self) c.push.result l c.push.ensures in
-    let m = subst (λ ds. Makes (filled h U ds) e.next c.sequence.result) q.1 c.sequence.ensures in
-    let r = text_made h (cs ++ c.in-Some.c ∷ []) c.args.bytes.now e.next c.in_ok-e.ensures.1 c.sequence.result m in
-    v.1 c.sequence.result (stage_goes (next h c.loop.text (started c.args.head) l) c.args.bytes.now c.loop.next e c.in_ok-e.ensures (Some c.in-Some.c) 117 c.in-Some.ensures.0 c.in-117.is c.sequence.result r)
 
 pub returns-in_default-mark : goal.returns-in_default-mark
 returns-in_default-mark c =

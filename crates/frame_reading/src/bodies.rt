@@ -83,10 +83,10 @@ impl Frame<'_> {
             text.push(c);
             next = q.next;
         }
-        match sequence_from(head, last, text) {
-            None => Err(Fault::Unknown),
-            Some(sequence) => Ok(Told { sequence, next }),
-        }
+        let Some(sequence) = sequence_from(head, last, text) else {
+            return Err(Fault::Unknown);
+        };
+        Ok(Told { sequence, next })
     }
 
     // How many characters there are, which the length told, and what follows.

@@ -1,5 +1,4 @@
-use Rattle.std.proofs.Common.{◌≡◌, ◌<◌, ◌≤◌, [], ◌∷◌, ◌++◌, length, Some, Err, refl, subst, arith}
-use Rattle.report.specs.declared.ending.Last.TheVariants.{U}
+use Rattle.std.proofs.Common.{◌<◌, ◌≤◌, length, Some, Err, refl, subst, arith}
 use Rattle.report.specs.declared.text.Text.{Text}
 use Rattle.report.specs.Meanings.{characters}
 use Rattle.dialect.proofs.Typing.{length-characters}
@@ -8,9 +7,9 @@ use Rattle.pieces.specs.declared.found.Range.TheVariants.{Code}
 use Rattle.pieces.proofs.Stages.{Stage}
 use Rattle.sequences.specs.Leads.{Lead, lead}
 use Rattle.sequences.proofs.Heads.{started}
-use Rattle.sequences.specs.Parts.{AtText, Started, Makes, Tells, filled, after_character}
+use Rattle.sequences.specs.Parts.{AtText, Started, Tells, after_character}
 use Rattle.sequences.proofs.Telling.{stage_break, stage_goes, stage_stops}
-use Rattle.sequences.proofs.TextLaws.{pushed, text_stage, text_full, text_none, text_strange, text_made}
+use Rattle.sequences.proofs.TextLaws.{pushed, text_stage, text_full, text_none, text_strange}
 use Rattle.sequences.proofs.sequences.read_text.Goals as goal
 
 -- the next character of a text that has room

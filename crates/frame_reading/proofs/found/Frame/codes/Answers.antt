@@ -36,8 +36,8 @@ loop-preserved c =
     let is : characters c.push.new.self ≡ characters t ++ q.value ∷ [] = p.1 ∙ ap (λ x. characters t ++ x ∷ []) c.in-Some.ensures.value.1 in
     (omega (arith, p.0, v.0), c.in_ok-q.ensures.1, λ r x. v.2 r (quad_goes Scalar (codes_chain k h l c.requires.ready (characters t) t.characters less) c.args.self.now.bytes.now c.loop.next q c.in_ok-q.ensures r (subst (λ ds. Tells (AtCodes k h l ds) c.args.self.now.bytes.now q.next r) is x)))
 
-pub returns-in-Some-sequence_from : goal.returns-in-Some-sequence_from
-returns-in-Some-sequence_from c =
+pub returns : goal.returns
+returns c =
     let v = c.loop.invariant in
     let t = c.loop.text in
     let k = c.args.self.now.count in

@@ -1,4 +1,4 @@
-use Rattle.std.proofs.Common.{arith, rules}
+use Rattle.std.proofs.Common.{rules}
 use Rattle.report.specs.Meanings.{means}
 use Rattle.report.proofs.Validity.{valid}
 use Rattle.encoding.proofs.encode.Goals as goal
@@ -6,4 +6,4 @@ use Rattle.encoding.proofs.encode.Goals as goal
 pub returns-in-Some : goal.returns-in-Some
 returns-in-Some g c =
     let sized = g.met.D.Dialect.sized c.args.dialect.now (means c.in-Some.report) (valid c.in-Some.report) in
-    record { passed = search rules; count = search rules; within = omega (arith, c.write.ensures.count, sized.1); row = search rules }
+    search (rules, sized)

@@ -5,10 +5,9 @@ use crate::words::{Words, optional, read_bits, read_bytes, read_char, read_numbe
 use dialect::dialect::Dialect;
 use input_types::flags::KittyKeyboardFlags;
 use pieces::found::Seen;
-use reading::faults::fault_number;
 use reading::reader::Reader;
 use report::ending::{Direction, Last};
-use report::making::{after_escape, plain_text, sequence_of};
+use report::making::{Parts, after_escape, plain_text};
 use report::report::Report;
 use report::sequence::Sequence;
 use report::text::Text;
@@ -29,16 +28,8 @@ fn direction_in(word: &str) -> Result<Direction, Bad> {
 }
 
 fn last_in(word: &str) -> Result<Last, Bad> {
-    match word {
-        "u" => Ok(Last::U),
-        "~" => Ok(Last::Tilde),
-        "A" => Ok(Last::Up),
-        "B" => Ok(Last::Down),
-        "C" => Ok(Last::Right),
-        "D" => Ok(Last::Left),
-        "E" => Ok(Last::Begin),
-        "F" => Ok(Last::End),
-        "H" => Ok(Last::Home),
+    match word.as_bytes() {
+        [byte] => Last::try_from(*byte).map_err(|_| Bad::Report),
         _ => Err(Bad::Report),
     }
 }
@@ -71,16 +62,16 @@ fn sequence_in(words: &mut Words) -> Result<Sequence, Bad> {
     let sum = words.next()?;
     let direction = words.next()?;
     let last = words.next()?;
-    let made = sequence_of(
-        read_number(number)?,
-        optional(shifted, read_number)?,
-        optional(base, read_number)?,
-        read_small(sum)?,
-        direction_in(direction)?,
-        last_in(last)?,
-        text_in(words.last()?)?,
-    );
-    made.ok_or(Bad::Report)
+    let parts = Parts {
+        number: read_number(number)?,
+        shifted: optional(shifted, read_number)?,
+        base: optional(base, read_number)?,
+        sum: read_small(sum)?,
+        direction: direction_in(direction)?,
+        last: last_in(last)?,
+        text: text_in(words.last()?)?,
+    };
+    Sequence::try_from(parts).map_err(|_| Bad::Report)
 }
 
 fn report_in(words: &mut Words) -> Result<Report, Bad> {
@@ -104,27 +95,6 @@ pub(crate) fn answer_write<W: Write, D: Dialect>(
     Ok(put_bytes(out, &row[0..count])?)
 }
 
-fn direction_word(direction: Direction) -> &'static str {
-    match direction {
-        Direction::Press => "press ",
-        Direction::Release => "release ",
-    }
-}
-
-fn last_word(last: Last) -> &'static str {
-    match last {
-        Last::U => "u ",
-        Last::Tilde => "~ ",
-        Last::Up => "A ",
-        Last::Down => "B ",
-        Last::Right => "C ",
-        Last::Left => "D ",
-        Last::Begin => "E ",
-        Last::End => "F ",
-        Last::Home => "H ",
-    }
-}
-
 // The text as the reader put it into the lent buffer.
 fn put_text<W: Write>(out: &mut W, codes: &[u32]) -> io::Result<()> {
     if codes.is_empty() {
@@ -139,15 +109,11 @@ fn put_text<W: Write>(out: &mut W, codes: &[u32]) -> io::Result<()> {
 }
 
 fn put_sequence<W: Write>(out: &mut W, s: &Sequence, row: &[u32]) -> io::Result<()> {
-    let number = s.number;
-    write!(out, "seq {number} ")?;
+    write!(out, "seq {} ", s.number)?;
     put_optional(out, s.shifted, "-", |out, code| write!(out, "{code}"))?;
     put(out, " ")?;
     put_optional(out, s.base, "-", |out, code| write!(out, "{code}"))?;
-    let sum = s.sum;
-    write!(out, " {sum} ")?;
-    put(out, direction_word(s.direction))?;
-    put(out, last_word(s.last))?;
+    write!(out, " {} {} {} ", s.sum, s.direction, s.last)?;
     let count = s.text.as_slice().len().min(row.len());
     put_text(out, &row[0..count])
 }
@@ -162,17 +128,13 @@ fn put_report<W: Write>(out: &mut W, report: &Report, row: &[u32]) -> io::Result
             put(out, "old ")?;
             put_char(out, c.code())
         }
-        Report::Answer(flags) => {
-            let bits = flags.bits();
-            write!(out, "answer {bits}")
-        }
+        Report::Answer(flags) => write!(out, "answer {}", flags.bits()),
         Report::Sequence(s) => put_sequence(out, s, row),
     }
 }
 
 fn put_seen<W: Write>(out: &mut W, seen: &Seen, row: &[u32]) -> io::Result<()> {
-    let length = seen.length;
-    write!(out, "ok {length} ")?;
+    write!(out, "ok {} ", seen.length)?;
     put_report(out, &seen.report, row)
 }
 
@@ -189,7 +151,7 @@ pub(crate) fn answer_read<W: Write, R: Reader>(
     match reader.read(bytes.as_slice(), text) {
         Ok(seen) => Ok(put_seen(out, &seen, text)?),
         Err(fault) => Err(Refusal::Declined {
-            number: fault_number(fault),
+            number: fault.number(),
             place: 0,
         }),
     }

@@ -24,11 +24,9 @@ const WORDS: [Named<u16>; 11] = [
 ];
 
 // No word names two modifiers.
-pub fn modifier_words_apart() -> u8
+pub fn modifier_words_apart()
     ensures { Table words }
-{
-    0
-}
+{}
 
 fn in_words(word: &str) -> Option<u16>
     ensures { result ≡ bears words word.now }
@@ -42,10 +40,7 @@ fn word_bits(part: &str, from: usize) -> Result<u16, NameFault>
     ensures { result ≡ word_bits from part.now }
 {
     let (word, indent) = trimmed(part);
-    match in_words(word) {
-        Some(bits) => Ok(bits),
-        None => Err(NameFault::Unknown(from + indent)),
-    }
+    in_words(word).ok_or(NameFault::Unknown(from + indent))
 }
 
 fn modifiers_of(list: &str) -> Result<Modifiers, NameFault>

@@ -170,8 +170,7 @@ static UNREAD_PHYS_NAMES: [Named<PhysKeyCode>; 4] = [
 pub fn phys_names_hold()
     ensures apart { Table (places ++ unread_places) }
     ensures own { PlacesNamed }
-{
-}
+{}
 
 fn place_in_table(name: &str) -> Option<PhysKeyCode>
     ensures { result ≡ bears places name.now }

@@ -1,3 +1,1 @@
-pub mod Decimals
 pub mod Labels
-pub mod Lines

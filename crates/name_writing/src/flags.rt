@@ -2,15 +2,16 @@
 ghost use Rattle.std.specs.Prelude.{◌≡◌, ◌+◌, ◌≤◌, [], length, if◌then◌else◌};
 ghost use Rattle.tables.specs.Entries.{entries};
 ghost use Rattle.name_writing.specs.Labels.{labels, leds_name, modifier_labels, modifiers_name, room, with_label};
-ghost use Rattle.name_writing.specs.Lines.{text};
+ghost use Rattle.arrayvec.specs.ArrayString.{array_string_len};
 ghost use Rattle.name_writing.specs.Written.{written};
 
-use crate::line::Line;
 use crate::put::put;
+use arrayvec::ArrayString;
 use input_types::modifiers::{KeyboardLedStatus, Modifiers};
 use names::fault::NameFault;
 use tables::Named;
 
+// The labels stand in constant tables: names are written without a heap.
 static MODIFIER_LABELS: [Named<u16>; 12] = [
     Named("SHIFT", Modifiers::SHIFT.bits),
     Named("ALT", Modifiers::ALT.bits),
@@ -26,44 +27,45 @@ static MODIFIER_LABELS: [Named<u16>; 12] = [
     Named("ENHANCED_KEY", Modifiers::ENHANCED_KEY.bits),
 ];
 
-static LED_LABELS: [Named<u16>; 2] = [Named("CAPS_LOCK", 2), Named("NUM_LOCK", 4)];
+static LED_LABELS: [Named<u16>; 2] = [
+    Named("CAPS_LOCK", KeyboardLedStatus::CAPS_LOCK.bits as u16),
+    Named("NUM_LOCK", KeyboardLedStatus::NUM_LOCK.bits as u16),
+];
 
 // Adds a label where its bits are set.
-fn push_label(line: &mut Line, label: &str, set: bool)
-    requires { line.old.len + (length label.now + 1) ≤ 128 }
-    ensures text { text line.new ≡ (if set then with_label label.now (text line.old) else text line.old) }
-    ensures len { line.new.len ≤ line.old.len + (length label.now + 1) }
+fn push_label(line: &mut ArrayString<128>, label: &str, set: bool)
+    requires { array_string_len line.old + (length label.now + 1) ≤ 128 }
+    ensures text { line.new.bytes ≡ (if set then with_label label.now line.old.bytes else line.old.bytes) }
+    ensures len { array_string_len line.new ≤ array_string_len line.old + (length label.now + 1) }
 {
     if !set {
         return;
     }
-    if line.is_empty() {
-        line.push(label.as_bytes());
-        return;
+    if !line.is_empty() {
+        line.push('|');
     }
-    line.push(b"|");
-    line.push(label.as_bytes());
+    line.push_str(label);
 }
 
-fn joined(table: &[Named<u16>], bits: u16) -> Line
+fn joined(table: &[Named<u16>], bits: u16) -> ArrayString<128>
     requires { room (entries table.now) ≤ 128 }
-    ensures { text result ≡ labels (entries table.now) bits [] }
+    ensures { result.bytes ≡ labels (entries table.now) bits [] }
 {
-    let mut line = Line::new();
+    let mut line = ArrayString::new();
     for e in table {
         push_label(&mut line, e.0, bits & e.1 == e.1);
     }
     line
 }
 
-fn modifier_labels(bits: u16) -> Line
-    ensures { text result ≡ labels modifier_labels bits [] }
+fn modifier_labels(bits: u16) -> ArrayString<128>
+    ensures { result.bytes ≡ labels modifier_labels bits [] }
 {
     joined(&MODIFIER_LABELS, bits)
 }
 
-fn led_labels(bits: u16) -> Line
-    ensures { text result ≡ leds_name bits }
+fn led_labels(bits: u16) -> ArrayString<128>
+    ensures { result.bytes ≡ leds_name bits }
 {
     joined(&LED_LABELS, bits)
 }
@@ -73,14 +75,14 @@ pub fn write_modifiers(modifiers: Modifiers, buffer: &mut [u8]) -> Result<usize,
     ensures { (result, buffer.new) ≡ written (modifiers_name modifiers.bits) buffer.old }
 {
     if modifiers.bits == 0 {
-        return put(buffer, b"NONE");
+        return put(buffer, "NONE");
     }
-    put(buffer, modifier_labels(modifiers.bits).as_slice())
+    put(buffer, modifier_labels(modifiers.bits).as_str())
 }
 
 // The same of lights.
 pub fn write_leds(leds: KeyboardLedStatus, buffer: &mut [u8]) -> Result<usize, NameFault>
     ensures { (result, buffer.new) ≡ written (leds_name leds.bits) buffer.old }
 {
-    put(buffer, led_labels(leds.bits as u16).as_slice())
+    put(buffer, led_labels(leds.bits as u16).as_str())
 }

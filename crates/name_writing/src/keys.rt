@@ -2,41 +2,35 @@
 ghost use Rattle.std.specs.Prelude.{◌≡◌};
 ghost use Rattle.names.specs.PhysTable.{place_name};
 ghost use Rattle.name_writing.specs.KeyNames.{key_name};
-ghost use Rattle.name_writing.specs.Spelt.{spelt};
 ghost use Rattle.name_writing.specs.Written.{to_buffer, written};
 
-use crate::key_name::{Name, name_of};
 use crate::pieces::{mapped, numbered};
 use crate::put::put;
 use input_types::key_code::KeyCode;
 use input_types::phys_key_code::PhysKeyCode;
+use key_names::plain_name;
 use names::fault::NameFault;
 use names::phys_names::phys_name;
 use texts::checked;
-
-fn put_name(name: Name<'_>, buffer: &mut [u8]) -> Result<usize, NameFault>
-    ensures { (result, buffer.new) ≡ to_buffer (spelt name.entry) buffer.old }
-{
-    match name {
-        Name::Plain(word) => put(buffer, word.as_bytes()),
-        Name::Raw(n) => put(buffer, numbered("raw:", n).as_slice()),
-        Name::Numpad(n) => put(buffer, numbered("Numpad", n as u32).as_slice()),
-        Name::Function(n) => put(buffer, numbered("F", n as u32).as_slice()),
-        Name::Mapped(c) => put(buffer, mapped(c).as_slice()),
-        Name::Text(text) => put(buffer, checked(text)?.as_bytes()),
-    }
-}
 
 // Writes a key's name to the front of a buffer, whose rest stays, and answers how many bytes it has.
 pub fn write_key_name(key: KeyCode<'_>, buffer: &mut [u8]) -> Result<usize, NameFault>
     ensures { (result, buffer.new) ≡ to_buffer (key_name key.entry) buffer.old }
 {
-    put_name(name_of(key), buffer)
+    match key {
+        KeyCode::Char(c) => put(buffer, mapped(c).as_str()),
+        KeyCode::Composed(text) => put(buffer, checked(text)?),
+        KeyCode::RawCode(n) => put(buffer, numbered("raw:", n).as_str()),
+        KeyCode::Physical(place) => put(buffer, phys_name(place)),
+        KeyCode::Numpad(n) => put(buffer, numbered("Numpad", n as u32).as_str()),
+        KeyCode::Function(n) => put(buffer, numbered("F", n as u32).as_str()),
+        _ => put(buffer, plain_name(key)),
+    }
 }
 
 // The same of a place.
 pub fn write_phys_name(key: PhysKeyCode, buffer: &mut [u8]) -> Result<usize, NameFault>
     ensures { (result, buffer.new) ≡ written (place_name key) buffer.old }
 {
-    put(buffer, phys_name(key).as_bytes())
+    put(buffer, phys_name(key))
 }

@@ -2,8 +2,6 @@
 #![tactic(auto)]
 
 pub mod flags;
-mod key_name;
 pub mod keys;
-mod line;
 mod pieces;
 mod put;

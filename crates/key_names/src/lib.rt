@@ -105,8 +105,7 @@ static UNREAD_KEY_NAMES: [Named<KeyCode<'static>>; 5] = [
 pub fn key_names_hold()
     ensures apart { Table (keys ++ unread_keys) }
     ensures own { KeysNamed }
-{
-}
+{}
 
 fn key_in_table(name: &str) -> Option<KeyCode<'static>>
     ensures { result ≡ bears keys name.now }

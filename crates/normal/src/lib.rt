@@ -23,54 +23,43 @@ fn without_shift(modifiers: Modifiers) -> Modifiers
 pub fn normalize_key_shift<'a>(key: KeyCode<'a>, modifiers: Modifiers) -> (KeyCode<'a>, Modifiers)
     ensures { result ≡ shifted key.entry modifiers }
 {
-    if modifiers.contains(Modifiers::SHIFT) {
-        match key {
-            KeyCode::Char(c) if c.is_ascii_uppercase() => (key, without_shift(modifiers)),
-            KeyCode::Char(c) if c.is_ascii_lowercase() => (
-                KeyCode::Char(c.to_ascii_uppercase()),
-                without_shift(modifiers),
-            ),
-            _ => (key, modifiers),
-        }
-    } else {
-        (key, modifiers)
+    match key {
+        KeyCode::Char(c) if modifiers.contains(Modifiers::SHIFT) && c.is_ascii_alphabetic() => (
+            KeyCode::Char(c.to_ascii_uppercase()),
+            without_shift(modifiers),
+        ),
+        _ => (key, modifiers),
     }
 }
 
 fn without_control<'a>(key: KeyCode<'a>, modifiers: Modifiers) -> KeyCode<'a>
     ensures { result ≡ uncontrolled key.entry modifiers }
 {
-    if modifiers.contains(Modifiers::CTRL) {
-        if let KeyCode::Char(c) = key {
-            if let Some(letter) = is_ascii_control(c) {
-                return KeyCode::Char(letter);
-            }
-        }
+    match key {
+        KeyCode::Char(c) if modifiers.contains(Modifiers::CTRL) => match is_ascii_control(c) {
+            Some(letter) => KeyCode::Char(letter),
+            None => key,
+        },
+        _ => key,
     }
-    key
 }
 
 fn resurfaced<'a>(own: KeyCode<'a>, raw: KeyCode<'a>) -> KeyCode<'a>
     ensures { result ≡ surfaced_key own.entry raw.entry }
 {
-    match own {
-        KeyCode::Control => match raw {
-            KeyCode::LeftControl | KeyCode::Physical(PhysKeyCode::LeftControl) =>
-                KeyCode::LeftControl,
-            KeyCode::RightControl | KeyCode::Physical(PhysKeyCode::RightControl) =>
-                KeyCode::RightControl,
-            _ => own,
-        },
-        KeyCode::Alt => match raw {
-            KeyCode::LeftAlt | KeyCode::Physical(PhysKeyCode::LeftAlt) => KeyCode::LeftAlt,
-            KeyCode::RightAlt | KeyCode::Physical(PhysKeyCode::RightAlt) => KeyCode::RightAlt,
-            _ => own,
-        },
-        KeyCode::Shift => match raw {
-            KeyCode::LeftShift | KeyCode::Physical(PhysKeyCode::LeftShift) => KeyCode::LeftShift,
-            KeyCode::RightShift | KeyCode::Physical(PhysKeyCode::RightShift) => KeyCode::RightShift,
-            _ => own,
-        },
+    match (own, raw) {
+        (KeyCode::Control, KeyCode::LeftControl | KeyCode::Physical(PhysKeyCode::LeftControl)) =>
+            KeyCode::LeftControl,
+        (KeyCode::Control, KeyCode::RightControl | KeyCode::Physical(PhysKeyCode::RightControl)) =>
+            KeyCode::RightControl,
+        (KeyCode::Alt, KeyCode::LeftAlt | KeyCode::Physical(PhysKeyCode::LeftAlt)) =>
+            KeyCode::LeftAlt,
+        (KeyCode::Alt, KeyCode::RightAlt | KeyCode::Physical(PhysKeyCode::RightAlt)) =>
+            KeyCode::RightAlt,
+        (KeyCode::Shift, KeyCode::LeftShift | KeyCode::Physical(PhysKeyCode::LeftShift)) =>
+            KeyCode::LeftShift,
+        (KeyCode::Shift, KeyCode::RightShift | KeyCode::Physical(PhysKeyCode::RightShift)) =>
+            KeyCode::RightShift,
         _ => own,
     }
 }

@@ -11,15 +11,14 @@ mod tests {
     use name_writing::flags::{write_leds, write_modifiers};
     use name_writing::keys::write_key_name;
     use names::composed::composed;
+    use names::fault::NameFault;
     use names::phys_names::read_phys_name;
     use normal::Normal;
 
-    // The number and the place of a refusal, and zeros for a name that reads.
-    fn refusal(name: &[u8]) -> (u8, usize) {
-        match read_key_name(name) {
-            Ok(_) => (0, 0),
-            Err(fault) => (fault.number(), fault.place()),
-        }
+    // The number and the place of a refusal, if there is one.
+    fn refusal<T: Drop>(answer: Result<T, NameFault>) -> Option<(u8, usize)> {
+        let fault = answer.err()?;
+        Some((fault.number(), fault.place()))
     }
 
     fn character(name: &[u8]) -> Option<char> {
@@ -47,28 +46,26 @@ mod tests {
 
     #[test]
     fn keys_that_do_not(rt: HostRuntime) {
-        assert!(rt; refusal(b"F0") == (4, 1));
-        assert!(rt; refusal(b"F25") == (4, 1));
-        assert!(rt; refusal(b"F++7") == (3, 1));
-        assert!(rt; refusal(b"Numpad256") == (3, 6));
-        assert!(rt; refusal(b"Numpad10") == (4, 6));
-        assert!(rt; refusal(b"KeyPadHome") == (2, 0));
-        assert!(rt; refusal(b"ab\xff") == (1, 2));
-        assert!(rt; refusal(b"\xee\x80\x80") == (5, 0));
+        assert!(rt; refusal(read_key_name(b"F0")) == Some((4, 1)));
+        assert!(rt; refusal(read_key_name(b"F25")) == Some((4, 1)));
+        assert!(rt; refusal(read_key_name(b"F++7")) == Some((3, 1)));
+        assert!(rt; refusal(read_key_name(b"Numpad256")) == Some((3, 6)));
+        assert!(rt; refusal(read_key_name(b"Numpad10")) == Some((4, 6)));
+        assert!(rt; refusal(read_key_name(b"KeyPadHome")) == Some((2, 0)));
+        assert!(rt; refusal(read_key_name(b"ab\xff")) == Some((1, 2)));
+        assert!(rt; refusal(read_key_name(b"\xee\x80\x80")) == Some((5, 0)));
     }
 
-    fn bits(list: &[u8]) -> (u16, u8, usize) {
-        match read_modifiers(list) {
-            Ok(modifiers) => (modifiers.bits, 0, 0),
-            Err(fault) => (0, fault.number(), fault.place()),
-        }
+    fn bits(list: &[u8]) -> Option<u16> {
+        let modifiers = read_modifiers(list).ok()?;
+        Some(modifiers.bits)
     }
 
     #[test]
     fn lists_of_modifiers(rt: HostRuntime) {
-        assert!(rt; bits(b" SHIFT | CTRL ") == (10, 0, 0));
-        assert!(rt; bits(b"LEADER|\xc2\xa0CMD|") == (144, 0, 0));
-        assert!(rt; bits(b"ALT|\xc2\xa0 shift") == (0, 2, 7));
+        assert!(rt; bits(b" SHIFT | CTRL ") == Some(10));
+        assert!(rt; bits(b"LEADER|\xc2\xa0CMD|") == Some(144));
+        assert!(rt; refusal(read_modifiers(b"ALT|\xc2\xa0 shift")) == Some((2, 7)));
     }
 
     #[test]
@@ -86,7 +83,7 @@ mod tests {
     fn written_keys(rt: HostRuntime) {
         let mut buffer = [b'.'; 15];
         let count = write_key_name(raw(4294967295), &mut buffer);
-        assert!(rt; matches!(count, Ok(14)));
+        assert!(rt; count == Ok(14));
         assert!(rt; buffer == *b"raw:4294967295.");
     }
 
@@ -94,17 +91,16 @@ mod tests {
     fn written_modifiers(rt: HostRuntime) {
         let mut buffer = [b'.'; 24];
         let count = write_modifiers(Modifiers { bits: 4106 }, &mut buffer);
-        assert!(rt; matches!(count, Ok(23)));
+        assert!(rt; count == Ok(23));
         assert!(rt; buffer == *b"SHIFT|CTRL|ENHANCED_KEY.");
     }
 
     #[test]
     fn no_room(rt: HostRuntime) {
         let mut buffer = [b'.'; 17];
-        match write_leds(KeyboardLedStatus { bits: 6 }, &mut buffer) {
-            Ok(_) => assert!(rt; false),
-            Err(fault) => assert!(rt; fault.number() == 13 && buffer == [b'.'; 17]),
-        }
+        let count = write_leds(KeyboardLedStatus { bits: 6 }, &mut buffer);
+        assert!(rt; refusal(count) == Some((13, 0)));
+        assert!(rt; buffer == [b'.'; 17]);
     }
 
     #[test]
@@ -116,10 +112,7 @@ mod tests {
                 Ok(KeyCode::Composed(_))
             )
         );
-        match composed(b"0123456789abcdef0123456789abcdef!") {
-            Ok(_) => assert!(rt; false),
-            Err(fault) => assert!(rt; (fault.number(), fault.place()) == (7, 32)),
-        }
+        assert!(rt; refusal(composed(b"0123456789abcdef0123456789abcdef!")) == Some((7, 32)));
     }
 
     fn press(c: char, modifiers: Modifiers) -> KeyEvent<'static> {

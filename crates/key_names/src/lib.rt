@@ -18,7 +18,7 @@ use numbers::read_within;
 use tables::{Named, find};
 use texts::{after, checked, only_char};
 
-// The names that can be read.
+// The names that can be read, in a constant table since keys are named without a heap.
 static KEY_NAMES: [Named<KeyCode<'static>>; 70] = [
     Named("Hyper", KeyCode::Hyper),
     Named("Super", KeyCode::Super),

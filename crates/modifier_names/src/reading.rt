@@ -9,6 +9,7 @@ use names::fault::NameFault;
 use tables::{Named, find};
 use texts::{checked, trimmed};
 
+// The words stand in a constant table, and one names no modifier: they are read without a heap.
 const WORDS: [Named<u16>; 11] = [
     Named("SHIFT", Modifiers::SHIFT.bits),
     Named("ALT", Modifiers::ALT.bits),

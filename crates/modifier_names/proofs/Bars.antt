@@ -4,7 +4,7 @@ use Rattle.std.proofs.lemmas.Bool.Decides.{nat_tests}
 use Rattle.names.specs.declared.fault.NameFault.{NameFault}
 use Rattle.modifier_names.specs.Words.{parts, onto, joined, listed_from, word_bits}
 
-abbrev NoBar : List ℕ → Type 0
+abbrev pub NoBar : List ℕ → Type 0
 NoBar xs = (i : ℕ) → i < length xs → get_or xs i 0 ≡ 124 → ⊥
 
 no_bar : (b : ℕ) (ws : List (List ℕ)) → (b ≡ 124 → ⊥) → cond (eqb b 124) ([] ∷ ws) (onto b ws) ≡ onto b ws

@@ -49,13 +49,10 @@ fn modifiers_of(list: &str) -> Result<Modifiers, NameFault>
 {
     let mut bits = 0;
     let mut from = 0;
-    let mut rest = list;
-    while let Some((part, more)) = rest.split_once('|') {
+    for part in list.split('|') {
         bits |= word_bits(part, from)?;
         from = from + part.len() + 1;
-        rest = more;
     }
-    bits |= word_bits(rest, from)?;
     Ok(Modifiers { bits })
 }
 

@@ -21,7 +21,7 @@ pub trait Variant {
 pub fn name_of<T: Variant>(table: &[Named<T>], value: &T) -> Option<&'static str>
     ensures { option_map (λ x. x.now) result ≡ name_for T.Variant.variant (entries table.now) (T.Variant.variant value.now) }
 {
-    // A loop, as in `tables::find`: a chain's closure would borrow the value.
+    // A loop, as in `tables::find`: with `find` and `map` the proof did not close.
     for e in table {
         if e.1.variant_number() == value.variant_number() {
             return Some(e.0);

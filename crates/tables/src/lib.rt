@@ -13,7 +13,7 @@ pub struct Named<T>(pub &'static str, pub T);
 pub fn find<T: Copy>(table: &[Named<T>], name: &str) -> Option<T>
     ensures { result ≡ bears (entries table.now) name.now }
 {
-    // A loop: the proof of `find` and `map` did not close, since the closure borrows the name.
+    // A loop: with `find` and `map` the proof did not close, nor with clauses at their closures.
     for e in table {
         if e.0 == name {
             return Some(e.1);

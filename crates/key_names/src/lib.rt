@@ -107,6 +107,7 @@ pub fn key_names_hold()
     ensures own { KeysNamed }
 {}
 
+// A function for each table and each way through it: there alone the table meets its definition.
 fn key_in_table(name: &str) -> Option<KeyCode<'static>>
     ensures { result ≡ bears keys name.now }
 {

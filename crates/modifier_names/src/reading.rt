@@ -48,6 +48,7 @@ fn modifiers_of(list: &str) -> Result<Modifiers, NameFault>
     ensures { result ≡ listed list.now }
 {
     let mut bits = 0;
+    // Where the part begins: a refusal tells the place of its word.
     let mut from = 0;
     for part in list.split('|') {
         bits |= word_bits(part, from)?;

@@ -172,6 +172,7 @@ pub fn phys_names_hold()
     ensures own { PlacesNamed }
 {}
 
+// A function for each table and each way through it: there alone the table meets its definition.
 fn place_in_table(name: &str) -> Option<PhysKeyCode>
     ensures { result ≡ bears places name.now }
 {

@@ -1,6 +1,6 @@
 // The words of an event.
 use crate::refusal::{Bad, Refusal};
-use crate::words::{Words, optional, read_bits, read_bytes, read_key, read_place, read_small};
+use crate::words::{Words, optional, read_bits, read_bytes, read_key, read_number, read_place};
 use input_types::event::{KeyEvent, RawKeyEvent};
 use input_types::modifiers::{KeyboardLedStatus, Modifiers};
 use input_types::phys_key_code::PhysKeyCode;
@@ -39,7 +39,7 @@ fn part_words<'a>(words: &mut Words<'a>) -> Result<PartWords<'a>, Bad> {
             bits: read_bits(modifiers)?,
         },
         leds: KeyboardLedStatus {
-            bits: read_small(leds)?,
+            bits: read_number(leds)?,
         },
     })
 }
@@ -96,10 +96,10 @@ fn event_of<'a>(
     raw_text: &'a [u8],
 ) -> Result<KeyEvent<'a>, Bad> {
     let key = read_key(words.own.key, own_text)?;
-    let raw = match words.raw {
-        Some(raw) => Some(raw_event(words, raw, raw_text)?),
-        None => None,
-    };
+    let raw = words
+        .raw
+        .map(|raw| raw_event(words, raw, raw_text))
+        .transpose()?;
     Ok(KeyEvent {
         key,
         modifiers: words.own.modifiers,

@@ -1,7 +1,7 @@
 // Queries on reports: their bytes in a dialect, and what a reader reads.
 use crate::print::{put, put_bytes, put_char, put_optional};
 use crate::refusal::{Bad, Refusal};
-use crate::words::{Words, optional, read_bits, read_bytes, read_char, read_number, read_small};
+use crate::words::{Words, optional, read_bits, read_bytes, read_char, read_number};
 use dialect::dialect::Dialect;
 use input_types::flags::KittyKeyboardFlags;
 use pieces::found::Seen;
@@ -66,7 +66,7 @@ fn sequence_in(words: &mut Words) -> Result<Sequence, Bad> {
         number: read_number(number)?,
         shifted: optional(shifted, read_number)?,
         base: optional(base, read_number)?,
-        sum: read_small(sum)?,
+        sum: read_number(sum)?,
         direction: direction_in(direction)?,
         last: last_in(last)?,
         text: text_in(words.last()?)?,
@@ -145,7 +145,7 @@ pub(crate) fn answer_read<W: Write, R: Reader>(
     words: &mut Words,
 ) -> Result<(), Refusal> {
     let bytes = read_bytes(heap, words.next()?)?;
-    let room = read_number(words.last()?)? as usize;
+    let room = read_number::<u32>(words.last()?)? as usize;
     let mut row = [0u32; 64];
     let text = &mut row[0..room.min(64)];
     match reader.read(bytes.as_slice(), text) {

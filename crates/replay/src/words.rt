@@ -6,6 +6,7 @@ use input_types::phys_key_code::PhysKeyCode;
 use key_names::read_key_name;
 use names::phys_names::read_phys_name;
 use std::alloc::Global;
+use std::str::FromStr;
 
 // Words with a space between, those that are still to be read.
 #[derive(Drop)]
@@ -76,11 +77,10 @@ pub(crate) fn read_char(word: &str) -> Result<char, Bad> {
     code.and_then(char::from_u32).ok_or(Bad::Hex)
 }
 
-pub(crate) fn read_number(word: &str) -> Result<u32, Bad> {
-    word.parse().map_err(|_| Bad::Number)
-}
-
-pub(crate) fn read_small(word: &str) -> Result<u8, Bad> {
+pub(crate) fn read_number<T: FromStr>(word: &str) -> Result<T, Bad>
+where
+    T::Err: Drop,
+{
     word.parse().map_err(|_| Bad::Number)
 }
 
@@ -95,8 +95,8 @@ pub(crate) fn read_key<'a>(word: &str, text: &'a [u8]) -> Result<KeyCode<'a>, Ba
         Some(("s", _)) => Ok(KeyCode::Composed(text)),
         Some(("p", place)) => Ok(KeyCode::Physical(read_place(place)?)),
         Some(("r", number)) => Ok(KeyCode::RawCode(read_number(number)?)),
-        Some(("n", number)) => Ok(KeyCode::Numpad(read_small(number)?)),
-        Some(("f", number)) => Ok(KeyCode::Function(read_small(number)?)),
+        Some(("n", number)) => Ok(KeyCode::Numpad(read_number(number)?)),
+        Some(("f", number)) => Ok(KeyCode::Function(read_number(number)?)),
         _ => read_plain_key(word),
     }
 }

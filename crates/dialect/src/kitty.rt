@@ -23,6 +23,7 @@ pub fn is_plain(s: &Sequence) -> bool
     s.number == 1 && s.last == Last::Begin && s.direction == Direction::Press && s.sum == 0
 }
 
+// The room that each part needs is a premise of it, not of the pen: it differs from part to part.
 fn put_optional(pen: &mut Pen, code: Option<u32>)
     requires { (coded code ≡ true) × (pen.old.at + 7 ≤ 512) }
     ensures wrote { Writes pen.old (optional code) pen.new }
@@ -121,8 +122,10 @@ impl Dialect for Kitty {
 
     ghost apart = { λ d. kitty_apart };
 
+    // These three lines stand in each dialect: a function of the trait for them would have a pen at its front as a
+    // premise, and be one more to write for a dialect.
     fn write(&self, report: &Report, out: &mut [u8; 512]) -> usize {
-        let mut pen = Pen::new(out);
+        let mut pen = Pen::new(out, 0);
         put_report(&mut pen, report);
         pen.count()
     }

@@ -13,12 +13,11 @@ pub struct Pen<'a> {
 }
 
 impl<'a> Pen<'a> {
-    // At the front of the row.
-    pub fn new(out: &'a mut [u8; 512]) -> Pen<'a>
+    pub fn new(out: &'a mut [u8; 512], at: usize) -> Pen<'a>
         ensures row { result.out ≡ out.entry }
-        ensures front { result.at ≡ 0 }
+        ensures place { result.at ≡ at }
     {
-        Pen { out, at: 0 }
+        Pen { out, at }
     }
 
     // How many bytes stand before the place.

@@ -1,7 +1,7 @@
 // What can be wrong with an event.
-ghost use Rattle.std.specs.Prelude.{◌≡◌};
+ghost use Rattle.std.specs.Prelude.{◌≡◌, Some};
 ghost use Rattle.events.specs.declared.fault.Fault.TheVariants.{NotText as Torn};
-ghost use Rattle.events.specs.Refusals.{number, place};
+ghost use Rattle.events.specs.Refusals.{meaning, number, place};
 
 use std::fmt;
 use texts::NotText;
@@ -19,6 +19,7 @@ pub enum Fault {
 }
 
 impl Fault {
+    // Not discriminants: two of the faults bear a place, and an enum that does has no cast to its number.
     pub fn number(self) -> u8
         ensures { result ≡ Rattle.events.specs.Refusals.number self }
     {
@@ -30,6 +31,7 @@ impl Fault {
         }
     }
 
+    // 0 for a fault without a place, as an answer line has it; an Option would be unpacked to that by each caller.
     pub fn place(self) -> usize
         ensures { result ≡ Rattle.events.specs.Refusals.place self }
     {
@@ -49,6 +51,8 @@ impl From<NotText> for Fault {
 }
 
 impl fmt::Display for Fault {
+    ghost output = { λ fault. Some (meaning fault) };
+
     fn fmt<W: fmt::Write>(&self, f: &mut fmt::Formatter<W>) -> fmt::Result {
         f.write_str(match self {
             Fault::NotAllowed => "a character that stands for another key",

@@ -48,10 +48,10 @@ impl<'a> Checked<'a> {
     pub fn reported_modifiers(self) -> Modifiers
         ensures { result.bits ≡ reported (event_of self.entry) }
     {
-        match &self.event.raw {
-            Some(raw) => raw.modifiers,
-            None => self.modifiers(),
-        }
+        self.event
+            .raw
+            .as_ref()
+            .map_or(self.modifiers(), |raw| raw.modifiers)
     }
 
     // The reported modifiers and the event's lights as one number.
@@ -78,7 +78,8 @@ impl<'a> Checked<'a> {
         self.event.raw.as_ref()?.phys_code
     }
 
-    // The physical key that the raw event names, or else the place of the event's key.
+    // The physical key that the raw event names, or else the place of the event's key. A match: the closure of
+    // `or_else` would have to say again what `to_phys` promises.
     pub fn guessed_phys(self) -> Option<PhysKeyCode>
         ensures { result ≡ guess (event_of self.entry) }
     {

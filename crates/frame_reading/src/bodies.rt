@@ -15,7 +15,6 @@ use report::ending::{Direction, Last};
 use report::report::Report;
 use report::scalar::Scalar;
 use report::text::Text;
-use sequences::making::sequence_from;
 use sequences::told::{Head, Told};
 
 // The character of a text.
@@ -61,7 +60,7 @@ impl Frame<'_> {
         ensures { Ends (lead head) last self.now.count result }
     {
         if self.count == 0 {
-            sequence_from(head, last, Text::none()).is_some()
+            head.into_sequence(last, Text::none()).is_some()
         } else {
             matches!(last, Last::U)
         }
@@ -83,7 +82,7 @@ impl Frame<'_> {
             text.push(c);
             next = q.next;
         }
-        let Some(sequence) = sequence_from(head, last, text) else {
+        let Some(sequence) = head.into_sequence(last, text) else {
             return Err(Fault::Unknown);
         };
         Ok(Told { sequence, next })

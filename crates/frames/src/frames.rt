@@ -105,7 +105,7 @@ impl Dialect for Frames {
     ghost apart = { λ d. frame_apart };
 
     fn write(&self, report: &Report, out: &mut [u8; 512]) -> usize {
-        let mut pen = Pen::new(out);
+        let mut pen = Pen::new(out, 0);
         put_report(&mut pen, report);
         pen.count()
     }

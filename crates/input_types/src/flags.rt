@@ -1,4 +1,5 @@
-// The settings that a program asks of the keyboard, as five bits.
+// The settings that a program asks of the keyboard, as five bits. Written out: `bitflags!` gives every set a
+// `from_bits_retain` that takes any bits, which a set below 32 by its type cannot have.
 ghost use Rattle.std.specs.Prelude.{◌≡◌, ◌<◌, ◌≤◌, MatchOption, bit_or};
 ghost use Rattle.input_types.specs.Bits.{holds, without};
 

@@ -202,24 +202,24 @@ impl KeyCode<'_> {
     pub fn is_modifier(&self) -> bool
         ensures { result ≡ modifier_key self.now }
     {
-        match *self {
+        matches!(
+            *self,
             KeyCode::Hyper
-            | KeyCode::CapsLock
-            | KeyCode::Super
-            | KeyCode::Meta
-            | KeyCode::Shift
-            | KeyCode::LeftShift
-            | KeyCode::RightShift
-            | KeyCode::Control
-            | KeyCode::LeftControl
-            | KeyCode::RightControl
-            | KeyCode::Alt
-            | KeyCode::LeftAlt
-            | KeyCode::RightAlt
-            | KeyCode::LeftWindows
-            | KeyCode::RightWindows => true,
-            _ => false,
-        }
+                | KeyCode::CapsLock
+                | KeyCode::Super
+                | KeyCode::Meta
+                | KeyCode::Shift
+                | KeyCode::LeftShift
+                | KeyCode::RightShift
+                | KeyCode::Control
+                | KeyCode::LeftControl
+                | KeyCode::RightControl
+                | KeyCode::Alt
+                | KeyCode::LeftAlt
+                | KeyCode::RightAlt
+                | KeyCode::LeftWindows
+                | KeyCode::RightWindows
+        )
     }
 
     // The place of the key on a US keyboard, where it has one. A letter's case is lost.

@@ -133,17 +133,17 @@ impl PhysKeyCode {
     pub fn is_modifier(&self) -> bool
         ensures { result ≡ modifier_place self.now }
     {
-        match *self {
+        matches!(
+            *self,
             PhysKeyCode::LeftShift
-            | PhysKeyCode::LeftControl
-            | PhysKeyCode::LeftWindows
-            | PhysKeyCode::LeftAlt
-            | PhysKeyCode::RightShift
-            | PhysKeyCode::RightControl
-            | PhysKeyCode::RightWindows
-            | PhysKeyCode::RightAlt => true,
-            _ => false,
-        }
+                | PhysKeyCode::LeftControl
+                | PhysKeyCode::LeftWindows
+                | PhysKeyCode::LeftAlt
+                | PhysKeyCode::RightShift
+                | PhysKeyCode::RightControl
+                | PhysKeyCode::RightWindows
+                | PhysKeyCode::RightAlt
+        )
     }
 
     // What the key means on a US keyboard.

@@ -1,5 +1,5 @@
 -- The numbers of the directions, and the bytes that end a sequence, in both dialects.
-use Rattle.std.specs.Prelude.{ℕ, Bool, ◌==◌}
+use Rattle.std.specs.Prelude.{ℕ, Bool, List, ◌==◌, [], ◌∷◌, codes}
 use Rattle.report.specs.declared.ending.Direction.{Direction}
 use Rattle.report.specs.declared.ending.Direction.TheVariants.{Press, Release}
 use Rattle.report.specs.declared.ending.Last.{Last}
@@ -8,6 +8,10 @@ use Rattle.report.specs.declared.ending.Last.TheVariants.{U, Tilde, Up, Down, Ri
 abbrev pub direction_number : Direction → ℕ
 direction_number Press = 1
 direction_number Release = 3
+
+abbrev pub direction_name : Direction → List ℕ
+direction_name Press = codes "press"
+direction_name Release = codes "release"
 
 abbrev pub is_press : Direction → Bool
 is_press d = direction_number d == 1
@@ -23,6 +27,10 @@ last_byte Left = 68
 last_byte Begin = 69
 last_byte End = 70
 last_byte Home = 72
+
+-- a final byte is printed as itself
+abbrev pub last_text : Last → List ℕ
+last_text l = last_byte l ∷ []
 
 -- the final E
 abbrev pub is_begin : Last → Bool

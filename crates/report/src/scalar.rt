@@ -1,4 +1,5 @@
-// A Unicode scalar value, with the fact that it is one.
+// A Unicode scalar value, with the fact that it is one. No `==` is derived: a report is told apart by its bytes, and
+// none compares two.
 ghost use Rattle.std.specs.Prelude.{◌≡◌, true};
 ghost use Rattle.std.proofs.Math.Utf8.{scalar};
 

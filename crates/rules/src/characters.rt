@@ -62,8 +62,7 @@ impl Input<'_> {
     {
         let own = self.key.modifiers();
         self.key.is_down()
-            && '!' <= c
-            && c <= '~'
+            && c.is_ascii_graphic()
             && !self
                 .flags
                 .contains(KittyKeyboardFlags::REPORT_ALTERNATE_KEYS)

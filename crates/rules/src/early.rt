@@ -53,7 +53,7 @@ impl Input<'_> {
     }
 }
 
-// A key of the keypad; the middle one without Num Lock has a final of its own.
+// A key of the keypad; 1 is a key's number in its sequence, as the others are. The middle one without Num Lock has a final of its own.
 pub(crate) fn keypad_rule(lock: bool, guess: Option<PhysKeyCode>, stroke: &Stroke) -> Option<Report>
     ensures { ruled (option_map means result) ≡ keypad lock guess (plain_stroke stroke.now) }
 {

@@ -17,7 +17,8 @@ use report::ending::Last;
 use report::report::Report;
 use report::text::Text;
 
-// The number of each of the first twelve function keys.
+// The number of each of the first twelve function keys. A match: a table would want the place proved to lie in it
+// at each read, and no caller reads it whole.
 fn function_number(n: u8) -> u32
     requires { (1 ≤ n) × (n ≤ 12) }
     ensures value { result ≡ slice_index function_numbers n }
@@ -46,6 +47,7 @@ fn function_rule(n: u8, stroke: &Stroke) -> Option<Report>
     match n {
         1..=12 => Some(bare_key(function_number(n), Last::Tilde, stroke)),
         13..=24 => {
+            // Field by field: a struct with a fact beside its fields takes no `..*stroke`.
             let wordless = Stroke {
                 sum: stroke.sum,
                 direction: stroke.direction,
@@ -66,7 +68,7 @@ impl Input<'_> {
             && !self
                 .flags
                 .contains(KittyKeyboardFlags::REPORT_ALL_KEYS_AS_ESCAPE_CODES)
-            && (c == '\r' || c == '\t' || c == '\u{8}')
+            && matches!(c, '\r' | '\t' | '\u{8}')
     }
 
     fn char_rules<L: Layout>(&self, layout: &L, c: char, stroke: &Stroke) -> Option<Report>
@@ -111,6 +113,7 @@ impl Input<'_> {
             Kind::Char(c) => self.char_rules(layout, c, stroke),
             Kind::Numbered(n) => Some(bare_key(n as u32, Last::Tilde, stroke)),
             Kind::Lettered(last) => Some(bare_key(1, last, stroke)),
+            // A match: the closure of `or_else` would have to say again what `functional_rule` promises.
             Kind::Function(n) => match function_rule(n, stroke) {
                 Some(report) => Some(report),
                 None => self.functional_rule(stroke),

@@ -10,25 +10,27 @@ use report::making::Parts;
 use report::sequence::Sequence;
 use report::text::Text;
 
-// The sequence that begins with `head`, if there is one.
-pub fn sequence_from(head: Head, last: Last, text: Text) -> Option<Sequence>
-    ensures { MatchOption result (Sound (filled (lead head) last (characters text)) → ⊥) (λ s. fields s ≡ filled (lead head) last (characters text)) }
-{
-    let Head {
-        number,
-        shifted,
-        base,
-        sum,
-        direction,
-    } = head;
-    Sequence::try_from(Parts {
-        number,
-        shifted,
-        base,
-        sum,
-        direction,
-        last,
-        text,
-    })
-    .ok()
+impl Head {
+    // The sequence that begins with this, if there is one.
+    pub fn into_sequence(self, last: Last, text: Text) -> Option<Sequence>
+        ensures { MatchOption result (Sound (filled (lead self) last (characters text)) → ⊥) (λ s. fields s ≡ filled (lead self) last (characters text)) }
+    {
+        let Head {
+            number,
+            shifted,
+            base,
+            sum,
+            direction,
+        } = self;
+        Sequence::try_from(Parts {
+            number,
+            shifted,
+            base,
+            sum,
+            direction,
+            last,
+            text,
+        })
+        .ok()
+    }
 }

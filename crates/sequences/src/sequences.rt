@@ -1,11 +1,11 @@
 // Reads what follows ESC [, part by part. The bytes and a place go from part to part, since a slice alone would lose the
-// place, which is told at the end.
+// place, which is told at the end; a struct of both would be made anew at each step. What a part read goes into the
+// head field by field, since a struct with facts beside its fields takes no `..head`.
 ghost use Rattle.std.specs.Prelude.{◌≤◌, [], length};
 ghost use Rattle.report.specs.Meanings.{characters};
 ghost use Rattle.sequences.specs.Leads.{lead};
 ghost use Rattle.sequences.specs.Parts.{AtNumber, AtShifted, AtBase, AtSum, AtEvent, AtMark, AtClosing, AtText, Tells, Makes, CharacterFor, EventFor, filled};
 
-use crate::making::sequence_from;
 use crate::told::{Head, Told};
 use dialect::kitty::is_plain;
 use pieces::digits::digits;
@@ -36,7 +36,7 @@ fn event_of(digit: u8) -> Option<Direction>
 fn sequence(head: Head, last: Last, text: Text, next: usize) -> Result<Told, Fault>
     ensures { Makes (filled (lead head) last (characters text)) next result }
 {
-    let sequence = sequence_from(head, last, text).ok_or(Fault::Unknown)?;
+    let sequence = head.into_sequence(last, text).ok_or(Fault::Unknown)?;
     if is_plain(&sequence) {
         Err(Fault::Unknown)
     } else {
@@ -50,6 +50,7 @@ fn read_text(bytes: &[u8], at: usize, head: Head) -> Result<Told, Fault>
 {
     let mut text = Text::none();
     let mut next = at;
+    // Each number tells where the next begins, so that no iterator of the bytes goes along with the count.
     for _ in 0..32u8 {
         let e = digits(bytes, next, Range::Code)?;
         let Some(c) = character(e.value) else {

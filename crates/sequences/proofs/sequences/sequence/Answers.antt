@@ -10,5 +10,5 @@ pub returns-else-is_plain : goal.returns-else-is_plain
 returns-else-is_plain c =
     let f = filled (lead c.args.head) c.args.last (characters c.args.text) in
     let s = c.in_ok-sequence.sequence in
-    let is = subst (λ r. MatchOption r (Sound f → ⊥) (λ s. fields s ≡ f)) c.in_ok-sequence.ensures.ok_part c.sequence_from.ensures in
+    let is = subst (λ r. MatchOption r (Sound f → ⊥) (λ s. fields s ≡ f)) c.in_ok-sequence.ensures.ok_part c.into_sequence.ensures in
     (is, subst Long is (valid (Told s), sym c.is_plain.ensures ∙ c.if-is_plain.false), refl)

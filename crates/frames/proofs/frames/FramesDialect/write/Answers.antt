@@ -11,7 +11,7 @@ returns c =
     let m = means c.args.report.now in
     let n = c.told-out in
     let fits : length (frame_bytes m) ≤ length c.args.out.now = omega (arith, frame_sized m (valid c.args.report.now), n) in
-    let w = written c.new-pen.ensures.front (ap (λ o. o.now) c.new-pen.ensures.row) fits c.put_report.ensures c.count.ensures in
+    let w = written c.new-pen.ensures.place (ap (λ o. o.now) c.new-pen.ensures.row) fits c.put_report.ensures c.count.ensures in
     let same = c.put_report.ensures.same_row in
     let after = w.1 in
     record { count = w.0; after = search (rules, same, after) }

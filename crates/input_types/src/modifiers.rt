@@ -1,5 +1,5 @@
-// Modifier keys that are held, and lights that are on. Their bits are open, as in the Rust, so that an event may hold
-// bits without a name; `bitflags!` would hide the field.
+// Modifier keys that are held, and lights that are on. Written out: `bitflag_items!` gives a
+// type's functions contracts only where its table of names is written again by hand, which is longer than they are.
 ghost use Rattle.std.specs.Prelude.{◌≡◌, ◌≤◌};
 ghost use Rattle.input_types.specs.Bits.{holds, named_modifiers, named_lights, without, positional, weight, xterm_of, sum_of};
 

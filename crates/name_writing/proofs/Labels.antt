@@ -1,5 +1,5 @@
 -- Labels one after another, and the room that they take.
-use Rattle.std.proofs.Common.{◌≡◌, ℕ, ◌+◌, ◌<◌, ◌≤◌, cond, List, [], ◌∷◌, ◌++◌, length, get_or, drop, refl, append_assoc}
+use Rattle.std.proofs.Common.{◌≡◌, ℕ, ◌+◌, ◌<◌, ◌≤◌, cond, List, [], ◌∷◌, length, get_or, drop, refl}
 use Rattle.std.proofs.lemmas.List.{drop_all, drop_more}
 use Rattle.input_types.specs.Bits.{holds}
 use Rattle.tables.specs.declared.Named.{Named}
@@ -19,8 +19,3 @@ module _ (t : List (Named ℕ)) (i : ℕ) where
 
   pub end : (bits : ℕ) (text : List ℕ) → length t ≤ i → labels (entries (drop i t)) bits text ≡ text
   end bits text h = rw (drop_all i t h) refl
-
--- a bar and a label behind something
-pub further : (label text : List ℕ) → (text ≡ [] → ⊥) → (text ++ (124 ∷ [])) ++ label ≡ with_label label text
-further label [] h = absurd (h refl)
-further label (b ∷ bs) h = append_assoc (b ∷ bs) (124 ∷ []) label

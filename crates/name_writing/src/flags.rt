@@ -12,6 +12,7 @@ use names::fault::NameFault;
 use tables::Named;
 
 // The labels stand in constant tables: names are written without a heap.
+// The bits stand as numbers, since `labels` is over numbers and modifiers and lights share it.
 static MODIFIER_LABELS: [Named<u16>; 12] = [
     Named("SHIFT", Modifiers::SHIFT.bits),
     Named("ALT", Modifiers::ALT.bits),
@@ -32,15 +33,12 @@ static LED_LABELS: [Named<u16>; 2] = [
     Named("NUM_LOCK", KeyboardLedStatus::NUM_LOCK.bits as u16),
 ];
 
-// Adds a label where its bits are set.
-fn push_label(line: &mut ArrayString<128>, label: &str, set: bool)
+// Adds a label behind those so far.
+fn push_label(line: &mut ArrayString<128>, label: &str)
     requires { array_string_len line.old + (length label.now + 1) ≤ 128 }
-    ensures text { line.new.bytes ≡ (if set then with_label label.now line.old.bytes else line.old.bytes) }
+    ensures text { line.new.bytes ≡ with_label label.now line.old.bytes }
     ensures len { array_string_len line.new ≤ array_string_len line.old + (length label.now + 1) }
 {
-    if !set {
-        return;
-    }
     if !line.is_empty() {
         line.push('|');
     }
@@ -53,7 +51,10 @@ fn joined(table: &[Named<u16>], bits: u16) -> ArrayString<128>
 {
     let mut line = ArrayString::new();
     for e in table {
-        push_label(&mut line, e.0, bits & e.1 == e.1);
+        // The `contains` of modifiers and of lights in one, over the bits of either.
+        if bits & e.1 == e.1 {
+            push_label(&mut line, e.0);
+        }
     }
     line
 }

@@ -1,5 +1,5 @@
 -- Labels one after another, and the room that they take.
-use Rattle.std.proofs.Common.{◌≡◌, ℕ, ◌+◌, ◌<◌, ◌≤◌, cond, List, [], ◌∷◌, length, get_or, drop, refl}
+use Rattle.std.proofs.Common.{◌≡◌, ℕ, ◌+◌, ◌<◌, ◌≤◌, cond, List, [], length, get_or, drop, refl}
 use Rattle.std.proofs.lemmas.List.{drop_all, drop_more}
 use Rattle.input_types.specs.Bits.{holds}
 use Rattle.tables.specs.declared.Named.{Named}

@@ -30,7 +30,7 @@ impl Fault {
 }
 
 // How much of a request has been read.
-#[derive(Clone, Copy)]
+#[derive(Clone, Copy, Debug, PartialEq, Eq)]
 enum State {
     Start,
     Escape,

@@ -6,7 +6,7 @@ ghost use Rattle.seat.specs.Modes.{mode_number, applied};
 use crate::refusal::Refusal;
 use input_types::flags::KittyKeyboardFlags;
 
-#[derive(Clone, Copy)]
+#[derive(Clone, Copy, Debug, PartialEq, Eq)]
 pub(crate) enum Mode {
     Replace,
     Add,

@@ -10,6 +10,7 @@ use tables::{Named, find};
 use texts::{checked, trimmed};
 
 // The words stand in a constant table, and one names no modifier: they are read without a heap.
+// The bits stand as numbers, since the definition of a table of words is over numbers.
 const WORDS: [Named<u16>; 11] = [
     Named("SHIFT", Modifiers::SHIFT.bits),
     Named("ALT", Modifiers::ALT.bits),

@@ -39,7 +39,7 @@ impl From<NumberFault> for NameFault {
 }
 
 impl NameFault {
-    // The number of the refusal.
+    // The number by which documents and programs know the refusal.
     pub fn number(self) -> u8
         ensures { result ≡ refusal_of self }
     {
@@ -54,6 +54,7 @@ impl NameFault {
     }
 
     // Where the fault stands in the bytes, or 0.
+    // No Option: every refusal is told with a place, which is 0 where there is none.
     pub fn place(self) -> usize
         ensures { result ≡ place_of self }
     {

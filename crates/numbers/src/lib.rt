@@ -22,7 +22,7 @@ pub struct NumberFault {
 }
 
 impl NumberFault {
-    // The number of the refusal: 3 where no number can be read, 4 where it is out of range.
+    // The number by which programs know the refusal: 3 where no number can be read, 4 where it is out of range.
     pub fn number(self) -> u8
         ensures { result ≡ refusal self.kind }
     {
@@ -34,6 +34,7 @@ impl NumberFault {
 }
 
 // One more digit at the end of a number.
+// Not by `parse`, which asks for UTF-8: of any bytes the first fault counts, as of 300 with a torn byte behind.
 fn add_digit(n: u8, b: u8) -> Result<u8, NumberKind>
     ensures { result ≡ with_digit n b }
 {

@@ -21,6 +21,7 @@ struct EventWords<'a> {
     phys: Option<PhysKeyCode>,
 }
 
+// By the words of a query: in the event, down is a bool.
 fn direction(word: &str) -> Result<bool, Bad> {
     match word {
         "d" => Ok(true),

@@ -19,6 +19,7 @@ pub(crate) fn flags_in(word: &str) -> Result<KittyKeyboardFlags, Bad> {
     KittyKeyboardFlags::from_bits(read_bits(word)?).ok_or(Bad::Bits)
 }
 
+// By the words of a query, which are no words of the direction's own crate.
 fn direction_in(word: &str) -> Result<Direction, Bad> {
     match word {
         "press" => Ok(Direction::Press),

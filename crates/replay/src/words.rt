@@ -70,6 +70,7 @@ pub(crate) fn read_bytes(heap: Global, word: &str) -> Result<Vec<u8>, Bad> {
 }
 
 // A character by its code in hex.
+// Not by `from_str_radix`: it would take a sign in front.
 pub(crate) fn read_char(word: &str) -> Result<char, Bad> {
     let code = word.chars().try_fold(0u32, |code, c| {
         code.checked_mul(16)?.checked_add(c.to_digit(16)?)

@@ -7,6 +7,7 @@ ghost use Rattle.request.specs.Steps.{more, stands as standing, ends as ending, 
 ghost use Rattle.request.specs.Reading.{Ended, Hears, OneWay, ended};
 
 // What a host asks for: flags, a count, flags with a mode, or the setting in force.
+// Whole numbers, as a host sends them, so that unlisted flags or an unlisted mode can come.
 #[derive(Clone, Copy, Debug, PartialEq, Eq)]
 pub enum Request {
     Push(u16),
@@ -22,6 +23,7 @@ pub enum Fault {
 }
 
 impl Fault {
+    // The number by which documents and programs know the fault.
     pub fn number(self) -> u8
         ensures { result ≡ 12 }
     {
@@ -43,6 +45,7 @@ enum State {
 }
 
 // One more digit at the end of a number that may not be there yet.
+// Not by `parse`: digits come one at a time, make up to sixteen bits, and have no sign in front.
 fn with_digit(n: Option<u16>, byte: u8) -> Option<u16>
     ensures { result ≡ more n byte }
 {

@@ -14,6 +14,7 @@ use seat::seat::Seat;
 use wire::Wire;
 
 // A call with its arguments; a drain says how many bytes it asks for.
+// Whole numbers, as a caller sends them, so that an unlisted setting, mode or screen can come and is refused.
 #[derive(Drop)]
 pub enum Call<'a> {
     Key(KeyEvent<'a>),

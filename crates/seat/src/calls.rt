@@ -67,6 +67,7 @@ impl<W: Wire, L: Layout, D: Dialect> Seat<W, L, D> {
     {
         let key = check(event)?;
         let flags = self.settings.top();
+        // No `map_or`: of what its closure would write to the wire, the proof knows nothing.
         match tell(&self.layout, flags, key) {
             Some(report) => self.send(&report),
             None => Ok(0),

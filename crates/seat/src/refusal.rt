@@ -35,6 +35,7 @@ impl From<NoRoom> for Refusal {
 }
 
 impl Refusal {
+    // The number by which documents and programs know the refusal.
     pub fn number(self) -> u8
         ensures { result ≡ refusal_number self }
     {
@@ -47,6 +48,7 @@ impl Refusal {
     }
 
     // Where the fault stands in the bytes of the event's text, or 0.
+    // No Option: every refusal is told with a place, which is 0 where there is none.
     pub fn place(self) -> usize
         ensures { result ≡ refusal_place self }
     {

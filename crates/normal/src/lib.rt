@@ -36,6 +36,7 @@ fn without_control<'a>(key: KeyCode<'a>, modifiers: Modifiers) -> KeyCode<'a>
     ensures { result ≡ uncontrolled key.entry modifiers }
 {
     match key {
+        // No `map_or(key, KeyCode::Char)`: a function whose result alone names a lifetime has no proof there.
         KeyCode::Char(c) if modifiers.contains(Modifiers::CTRL) => match is_ascii_control(c) {
             Some(letter) => KeyCode::Char(letter),
             None => key,

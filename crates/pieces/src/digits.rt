@@ -18,7 +18,7 @@ fn most_of(range: Range) -> u32
     ensures { result ≡ most range }
 {
     match range {
-        Range::Code => 1114111,
+        Range::Code => char::MAX as u32,
         Range::Sum => 256,
         Range::Flags => 31,
     }

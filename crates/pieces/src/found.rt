@@ -2,14 +2,15 @@
 use report::report::Report;
 
 // `Short` where the bytes only begin what is wanted, `Unknown` where nothing that is wanted begins so.
-#[derive(Clone, Copy)]
+#[derive(Clone, Copy, Debug, PartialEq, Eq)]
 pub enum Fault {
     Short,
     Unknown,
 }
 
 // Which numbers are wanted: a code, the modifier sum plus one, the flags of an answer.
-#[derive(Clone, Copy)]
+// An enum rather than bounds in a struct or a closure, since the contracts name the numbers by it.
+#[derive(Clone, Copy, Debug, PartialEq, Eq)]
 pub enum Range {
     Code,
     Sum,
@@ -17,7 +18,7 @@ pub enum Range {
 }
 
 // A number, if there is one, the byte after it, and the place after that.
-#[derive(Clone, Copy)]
+#[derive(Clone, Copy, Debug, PartialEq, Eq)]
 pub struct Ended {
     pub value: Option<u32>,
     pub mark: u8,
@@ -25,13 +26,13 @@ pub struct Ended {
 }
 
 // A character and the place after it.
-#[derive(Clone, Copy)]
+#[derive(Clone, Copy, Debug, PartialEq, Eq)]
 pub struct Letter {
     pub code: char,
     pub next: usize,
 }
 
-// A report and how many bytes it took.
+// A report and how many bytes it took, with no equality, since reports have none.
 #[derive(Clone, Copy)]
 pub struct Seen {
     pub report: Report,

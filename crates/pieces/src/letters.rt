@@ -22,6 +22,7 @@ fn letter(code: u32, next: usize) -> Letter
 }
 
 // The six bits that the byte at a place adds to a character.
+// The bytes and a place, not a struct of both, which would be made anew for each place that is named below.
 fn tail(bytes: &[u8], at: usize) -> Result<u32, Fault>
     ensures { Trails bytes.now at result }
 {
@@ -74,6 +75,7 @@ fn four(bytes: &[u8]) -> Result<Letter, Fault>
 }
 
 // The character at the front, which may not be ESC.
+// By hand: `from_utf8` takes all it is given, so the front would be cut to four bytes, and what is good of it read a second time.
 pub fn read_letter(bytes: &[u8]) -> Result<Letter, Fault>
     ensures { Spells Characters bytes.now result }
 {

@@ -18,6 +18,7 @@ use report::text::Text;
 use sequences::told::{Head, Told};
 
 // The character of a text.
+// The bytes and a place, as the readers of quads and bytes below it take them, with no struct to take apart again.
 pub(crate) fn read_text(bytes: &[u8], at: usize) -> Result<Seen, Fault>
     ensures { Sees AtText bytes.now at result }
 {
@@ -74,6 +75,7 @@ impl Frame<'_> {
     {
         let mut text = Text::none();
         let mut next = at;
+        // Not by `chunks`, since what the input leaves of the last character may still begin one.
         for _ in 0..self.count {
             let q = read_quad(self.bytes, next, Rule::Scalar)?;
             let Some(c) = char::from_u32(q.value) else {
@@ -124,6 +126,7 @@ impl Frame<'_> {
         let Ok(direction) = Direction::try_from(b) else {
             return Err(Fault::Unknown);
         };
+        // A field is set alone, here and below: `..head` is refused where a struct has ghost fields.
         let mut told = head;
         told.direction = direction;
         self.last(at + 1, told)

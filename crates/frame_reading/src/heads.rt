@@ -20,6 +20,7 @@ fn body_of(length: u8) -> Option<Body>
     }
 }
 
+// Not by a cast of the body itself: an enum with a field in a variant has none.
 fn kind_of(body: Body) -> u8
     ensures { result ≡ kind_of body }
 {

@@ -8,15 +8,15 @@ use pieces::found::Fault;
 fn is_scalar(n: u32) -> bool
     ensures { result ≡ ok Rule.Scalar n }
 {
-    n < 0xd800 || (0xe000 <= n && n < 0x11_0000)
+    char::from_u32(n).is_some()
 }
 
 fn allowed(rule: Rule, n: u32) -> bool
     ensures { result ≡ ok rule n }
 {
     match rule {
-        Rule::Code => n <= 0x10_ffff,
-        Rule::Optional => n <= 0x10_ffff || n == 0xffff_ffff,
+        Rule::Code => n <= char::MAX as u32,
+        Rule::Optional => n <= char::MAX as u32 || n == 0xffff_ffff,
         Rule::Scalar => is_scalar(n),
         Rule::Clear => is_scalar(n) && n != 0x1b,
     }
@@ -30,6 +30,7 @@ fn with_high(bytes: &[u8], at: usize, high: u8) -> u32
     u32::from_le_bytes([bytes[at], bytes[at + 1], bytes[at + 2], high])
 }
 
+// The bytes and a place, not a struct of both: a quad answers its next place alone, so the struct would be made anew for each.
 // Three bytes tell all but the highest, which is 0, or FF where a code is absent.
 pub(crate) fn read_quad(bytes: &[u8], at: usize, rule: Rule) -> Result<Quad, Fault>
     ensures { SaysQuad rule bytes.now at result }

@@ -7,9 +7,9 @@ use pieces::found::Fault;
 // `Short` where the bytes only begin a report, `Unknown` where no report begins so, `Narrow` where its text has no room.
 #[derive(Clone, Copy, Debug, PartialEq, Eq)]
 pub enum ReadFault {
-    Short,
-    Unknown,
-    Narrow,
+    Short = 11,
+    Unknown = 12,
+    Narrow = 13,
 }
 
 impl ReadFault {
@@ -17,11 +17,7 @@ impl ReadFault {
     pub fn number(self) -> u8
         ensures { result ≡ fault_number self }
     {
-        match self {
-            ReadFault::Short => 11,
-            ReadFault::Unknown => 12,
-            ReadFault::Narrow => 13,
-        }
+        self as u8
     }
 }
 

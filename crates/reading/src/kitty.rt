@@ -36,6 +36,7 @@ fn short_form() -> Sequence
 }
 
 // The flags of an answer, after ESC [ ?.
+// The bytes and a place, as `digits` takes them, with no struct to take apart again.
 fn read_flags(bytes: &[u8], at: usize) -> Result<Seen, Fault>
     ensures { Sees AtFlags bytes.now at result }
 {

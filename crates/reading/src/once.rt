@@ -17,10 +17,6 @@ pub fn one_answer<D: Dialect>(d: &D)
     let _ = d;
 }
 
-fn blank() -> [u8; 512] {
-    [0; 512]
-}
-
 // Reads what the dialect writes: a clear report whose text has room comes back.
 pub fn round_trip<R: Reader>(
     reader: &R,
@@ -30,7 +26,7 @@ pub fn round_trip<R: Reader>(
     ensures reads { Fills (R.Dialect.bytes reader.now) (R.Dialect.bytes reader.now (means report.now)) text.old text.new result }
     ensures back { Clear (means report.now) → length (text_of (means report.now)) ≤ length text.old → Returns (means report.now) result }
 {
-    let mut row = blank();
+    let mut row = [0; 512];
     let count = reader.write(report, &mut row);
     reader.read(&row[0..count], text)
 }

@@ -19,6 +19,7 @@ fn put_codes(codes: &Text, row: &mut [u32]) -> Result<(), ReadFault>
     if row.len() < codes.len() {
         return Err(ReadFault::Narrow);
     }
+    // By the index: where `iter_mut().zip(..)` writes the row, an invariant has no name for what it holds by then.
     for (i, c) in codes.iter().enumerate() {
         row[i] = *c as u32;
     }

@@ -35,9 +35,7 @@ pub(crate) fn read_flags(bytes: &[u8], at: usize) -> Result<Seen, Fault>
     ensures { Sees AtFlags bytes.now at result }
 {
     let n = octet(bytes, at)?;
-    let Some(flags) = KittyKeyboardFlags::from_bits(n as u16) else {
-        return Err(Fault::Unknown);
-    };
+    let flags = KittyKeyboardFlags::from_bits(n as u16).ok_or(Fault::Unknown)?;
     Ok(Seen {
         report: Report::Answer(flags),
         length: at + 1,

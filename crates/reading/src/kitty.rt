@@ -47,9 +47,7 @@ fn read_flags(bytes: &[u8], at: usize) -> Result<Seen, Fault>
     if e.mark != b'u' {
         return Err(Fault::Unknown);
     }
-    let Some(flags) = KittyKeyboardFlags::from_bits(n as u16) else {
-        return Err(Fault::Unknown);
-    };
+    let flags = KittyKeyboardFlags::from_bits(n as u16).ok_or(Fault::Unknown)?;
     Ok(Seen {
         report: Report::Answer(flags),
         length: e.next,

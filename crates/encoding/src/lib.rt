@@ -25,7 +25,7 @@ pub fn encode<'a, L: Layout, D: Dialect>(
     ensures { MatchResult result (λ n. Sends (L.base layout.now) (D.bytes dialect.now) flags.bits (plain_event event.now) n out.old out.new) (λ f. Refuses (plain_event event.now) f out.old out.new) }
 {
     let key = check(event)?;
-    // No `map_or`: of what its closure would write to `out`, the proof knows nothing.
+    // No `map_or`: its closure would have to say again what `write` promises of `out`.
     match tell(layout, flags, key) {
         Some(report) => Ok(dialect.write(&report, out)),
         None => Ok(0),

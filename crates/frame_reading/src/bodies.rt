@@ -61,6 +61,7 @@ impl Frame<'_> {
         if self.count == 0 {
             head.into_sequence(last, Text::none()).is_some()
         } else {
+            // Not `==`: the proof needs the two arms, and the comparison has one fact for both.
             matches!(last, Last::U)
         }
     }

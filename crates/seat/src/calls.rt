@@ -67,7 +67,7 @@ impl<W: Wire, L: Layout, D: Dialect> Seat<W, L, D> {
     {
         let key = check(event)?;
         let flags = self.settings.top();
-        // No `map_or`: of what its closure would write to the wire, the proof knows nothing.
+        // No `map_or`: its closure would have to say again what `send` promises of the wire.
         match tell(&self.layout, flags, key) {
             Some(report) => self.send(&report),
             None => Ok(0),

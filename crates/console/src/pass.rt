@@ -7,7 +7,7 @@ use input_types::phys_key_code::PhysKeyCode;
 #[derive(Drop)]
 pub struct Step {
     pub name: &'static str,
-    // The settings by number: a constant cannot join named ones, and at 32 there are none.
+    // By number: `union` cannot be called in a constant, and at 32 there are no settings.
     pub flags: u16,
     pub event: KeyEvent<'static>,
 }

@@ -9,7 +9,7 @@ pub trait Dialect {
     ghost bytes: { Self → Meaning → List ℕ };
 
     // Writes the report's bytes to the front of `out`, whose rest stays, and answers how many. The caller lends the
-    // row, since a key allocates nothing.
+    // row, so that 512 bytes are neither allocated nor copied.
     fn write(&self, report: &Report, out: &mut [u8; 512]) -> usize
         ensures count { result ≡ length (bytes self.now (means report.now)) }
         ensures after { out.new ≡ bytes self.now (means report.now) ++ drop result out.old };

@@ -24,6 +24,7 @@ pub fn is_plain(s: &Sequence) -> bool
 }
 
 // The room that each part needs is a premise of it, not of the pen: it differs from part to part.
+// That a code is in range is one too: `Sequence` has plain numbers as fields, and holds the fact of them.
 fn put_optional(pen: &mut Pen, code: Option<u32>)
     requires { (coded code ≡ true) × (pen.old.at + 7 ≤ 512) }
     ensures wrote { Writes pen.old (optional code) pen.new }

@@ -5,7 +5,7 @@ ghost use Rattle.dialect.specs.Puts.{Put, Wrote, Writes};
 
 use itoa::Buffer;
 
-// A row, and the place in it where the next byte goes.
+// A row, and the place in it where the next byte goes: no vector, since the row is the caller's and its rest stays.
 #[derive(Drop)]
 pub struct Pen<'a> {
     out: &'a mut [u8; 512],
@@ -27,6 +27,7 @@ impl<'a> Pen<'a> {
         self.at
     }
 
+    // What is put here and below has few bytes: its room is a premise, and putting it cannot fail.
     pub(crate) fn byte(&mut self, b: u8)
         requires { self.old.at < 512 }
         ensures { Writes self.old (b ∷ []) self.new }

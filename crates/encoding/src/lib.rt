@@ -14,7 +14,7 @@ use layout::Layout;
 use rules::telling::tell;
 
 // Writes what an event sends to the front of `out`, whose rest stays, and answers how many bytes: none if the event is silent.
-// An event with a fault leaves `out` as it was.
+// An event with a fault leaves `out` as it was. The caller lends it, since a key allocates nothing.
 pub fn encode<'a, L: Layout, D: Dialect>(
     layout: &L,
     dialect: &D,

@@ -11,7 +11,7 @@ use input_types::event::KeyEvent;
 #[derive(Clone, Copy)]
 pub struct Checked<'a> {
     pub(crate) event: &'a KeyEvent<'a>,
-    // The text of a composed key; empty for any other.
+    // The text of a composed key, empty for any other; not in the kind, which is made before the text is checked.
     pub(crate) text: &'a str,
     ghost passed: { faultless (plain_event event.now) ≡ true },
     ghost spelled: { text.now ≡ bytes_of (kind_of event.now.key) },

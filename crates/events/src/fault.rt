@@ -42,6 +42,7 @@ impl Fault {
     }
 }
 
+// By hand, here and below: what a derive of these impls writes has no contract.
 impl From<NotText> for Fault {
     ghost from_gives = { λ e r. r ≡ Torn e.place };
 

@@ -89,7 +89,7 @@ impl<'a> Checked<'a> {
         }
     }
 
-    // The number of the raw event's key among the functional keys.
+    // The number of the raw event's key among the functional keys, a plain `u32` with its bound in a clause.
     pub fn raw_code(self) -> Option<u32>
         ensures value { result ≡ code_raw (event_of self.entry).raw }
         ensures bound { IfSome result (λ n. n ≤ 57654) }

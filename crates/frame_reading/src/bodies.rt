@@ -61,7 +61,7 @@ impl Frame<'_> {
         if self.count == 0 {
             head.into_sequence(last, Text::none()).is_some()
         } else {
-            // Not `==`: the proof needs the two arms, and the comparison has one fact for both.
+            // Not `==`: the proof needs a fact for each answer, and the comparison gives one for both.
             matches!(last, Last::U)
         }
     }
@@ -74,7 +74,7 @@ impl Frame<'_> {
     {
         let mut text = Text::none();
         let mut next = at;
-        // Not by `chunks`, since what the input leaves of the last character may still begin one.
+        // Not by `chunks`: the bytes may end before the count, and what then begins a character is short, not wrong.
         for _ in 0..self.count {
             let q = read_quad(self.bytes, next, Rule::Scalar)?;
             let Some(c) = char::from_u32(q.value) else {

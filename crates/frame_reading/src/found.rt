@@ -11,7 +11,7 @@ pub enum Rule {
     Clear,
 }
 
-// A number of four bytes and the place after it.
+// A number of four bytes and the place after it, each named by what it is.
 #[derive(Clone, Copy, Debug, PartialEq, Eq)]
 pub struct Quad {
     pub value: u32,

@@ -30,7 +30,7 @@ fn with_high(bytes: &[u8], at: usize, high: u8) -> u32
     u32::from_le_bytes([bytes[at], bytes[at + 1], bytes[at + 2], high])
 }
 
-// The bytes and a place, not a struct of both: a quad answers its next place alone, so the struct would be made anew for each.
+// The bytes and a place: each clause speaks of the bytes from a place, and a reader that moves would add its former place.
 // Three bytes tell all but the highest, which is 0, or FF where a code is absent.
 pub(crate) fn read_quad(bytes: &[u8], at: usize, rule: Rule) -> Result<Quad, Fault>
     ensures { SaysQuad rule bytes.now at result }

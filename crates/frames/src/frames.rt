@@ -30,6 +30,7 @@ fn or_none(code: Option<u32>) -> u32
     code.unwrap_or(0xffff_ffff)
 }
 
+// The room that each part needs is a premise of it, not of the pen: it differs from part to part.
 fn put_le32(pen: &mut Pen, n: u32)
     requires { pen.old.at + 4 ≤ 512 }
     ensures { Writes pen.old (le32 n) pen.new }
@@ -104,6 +105,7 @@ impl Dialect for Frames {
 
     ghost apart = { λ d. frame_apart };
 
+    // These lines stand in each dialect: a function of the trait for them would be one more to write.
     fn write(&self, report: &Report, out: &mut [u8; 512]) -> usize {
         let mut pen = Pen::new(out, 0);
         put_report(&mut pen, report);

@@ -6,7 +6,7 @@ use crate::key_code::KeyCode;
 use crate::modifiers::{KeyboardLedStatus, Modifiers};
 use crate::phys_key_code::PhysKeyCode;
 
-// A key event before any dead key or input method had it.
+// A key event before any dead key or input method had it. Its fields, as those of `KeyEvent`, are the Rust's.
 #[derive(Drop, Debug)]
 pub struct RawKeyEvent<'a> {
     pub key: KeyCode<'a>,
@@ -31,6 +31,7 @@ pub struct KeyEvent<'a> {
     pub raw: Option<RawKeyEvent<'a>>,
 }
 
+// The bound is a clause: the number is a plain `u32`, as in the Rust.
 fn code_by_phys(phys: PhysKeyCode) -> Option<u32>
     ensures value { result ≡ by_phys phys }
     ensures bound { IfSome result (λ n. n ≤ 57654) }
@@ -89,8 +90,8 @@ fn code_by_phys(phys: PhysKeyCode) -> Option<u32>
 }
 
 impl RawKeyEvent<'_> {
-    // The number of the key in the protocol's table of functional keys, by the key and else by its place. The two
-    // tables stand apart as in the Rust: they are over two types, and half of their rows differ.
+    // The number of the key in the protocol's table of functional keys, by the key and else by its place.
+    // The two tables stand apart: they are over two types, and half of their rows differ.
     pub fn kitty_function_code(&self) -> Option<u32>
         ensures value { result ≡ code_of self.now.key self.now.phys_code }
         ensures bound { IfSome result (λ n. n ≤ 57654) }

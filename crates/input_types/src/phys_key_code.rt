@@ -146,7 +146,7 @@ impl PhysKeyCode {
         )
     }
 
-    // What the key means on a US keyboard.
+    // What the key means on a US keyboard. By the name that it has in the Rust: `From` would be a second one.
     pub fn to_key_code(self) -> KeyCode<'static>
         ensures { result ≡ key_of self }
     {

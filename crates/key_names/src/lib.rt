@@ -107,7 +107,7 @@ pub fn key_names_hold()
     ensures own { KeysNamed }
 {}
 
-// A function for each table and each way through it: there alone the table meets its definition.
+// A function for each table and look-up: its proof alone unfolds the definition of the table.
 fn key_in_table(name: &str) -> Option<KeyCode<'static>>
     ensures { result ≡ bears keys name.now }
 {
@@ -159,5 +159,6 @@ fn unread_name(key: KeyCode<'_>) -> Option<&'static str>
 pub fn plain_name(key: KeyCode<'_>) -> &'static str
     ensures { result.now ≡ plain_name key.entry }
 {
+    // `or`: a closure of `or_else` would have to say again what `unread_name` promises.
     read_name(key).or(unread_name(key)).unwrap_or("")
 }

@@ -6,6 +6,7 @@ ghost use Rattle.layout.specs.Bases;
 
 use crate::Layout;
 
+// By hand: the rules lower the case of these letters alone, and `to_lowercase` that of every script.
 // The lower-case form of a letter of Latin or Cyrillic script stands this far behind it; 0 for any other character.
 fn to_lower(c: char) -> u32
     ensures value { result ≡ to_lower capitals c }

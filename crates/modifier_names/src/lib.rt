@@ -1,4 +1,4 @@
-// The names of modifiers and of keyboard lights.
+// The modifiers that a list of names stands for.
 #![tactic(auto)]
 
 pub mod reading;

@@ -9,8 +9,8 @@ use names::fault::NameFault;
 use tables::{Named, find};
 use texts::{checked, trimmed};
 
-// The words stand in a constant table, and one names no modifier: they are read without a heap.
-// The bits stand as numbers, since the definition of a table of words is over numbers.
+// In a constant table, since words are read without a heap.
+// By bits: `words` lists numbers, which `listed` joins as they are.
 const WORDS: [Named<u16>; 11] = [
     Named("SHIFT", Modifiers::SHIFT.bits),
     Named("ALT", Modifiers::ALT.bits),
@@ -49,7 +49,7 @@ fn modifiers_of(list: &str) -> Result<Modifiers, NameFault>
     ensures { result ≡ listed list.now }
 {
     let mut bits = 0;
-    // Where the part begins: a refusal tells the place of its word.
+    // Where the part begins, for a refusal: `split` gives no places.
     let mut from = 0;
     for part in list.split('|') {
         bits |= word_bits(part, from)?;

@@ -59,6 +59,7 @@ fn joined(table: &[Named<u16>], bits: u16) -> ArrayString<128>
     line
 }
 
+// A function for each table: its proof alone unfolds the definition of the table.
 fn modifier_labels(bits: u16) -> ArrayString<128>
     ensures { result.bytes ≡ labels modifier_labels bits [] }
 {
@@ -72,6 +73,7 @@ fn led_labels(bits: u16) -> ArrayString<128>
 }
 
 // Writes the names of modifiers to the front of a buffer, whose rest stays, and answers how many bytes they have.
+// Not by `Display`: a name that has no room is refused, and leaves the buffer as it was.
 pub fn write_modifiers(modifiers: Modifiers, buffer: &mut [u8]) -> Result<usize, NameFault>
     ensures { (result, buffer.new) ≡ written (modifiers_name modifiers.bits) buffer.old }
 {

@@ -14,6 +14,7 @@ use names::phys_names::phys_name;
 use texts::checked;
 
 // Writes a key's name to the front of a buffer, whose rest stays, and answers how many bytes it has.
+// Not by `Display`: a name that has no room is refused, and leaves the buffer as it was.
 pub fn write_key_name(key: KeyCode<'_>, buffer: &mut [u8]) -> Result<usize, NameFault>
     ensures { (result, buffer.new) ≡ to_buffer (key_name key.entry) buffer.old }
 {

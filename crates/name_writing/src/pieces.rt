@@ -5,6 +5,7 @@ ghost use Rattle.std.proofs.Math.Utf8.{encode};
 use arrayvec::ArrayString;
 use itoa::Buffer;
 
+// Not by `write!`: there is room by the clause, and its Result would only be let go.
 pub(crate) fn numbered(word: &str, n: u32) -> ArrayString<128>
     requires { length word.now ≤ 100 }
     ensures { result.bytes ≡ word.now ++ decimal n }

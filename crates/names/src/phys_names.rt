@@ -172,7 +172,7 @@ pub fn phys_names_hold()
     ensures own { PlacesNamed }
 {}
 
-// A function for each table and each way through it: there alone the table meets its definition.
+// A function for each table and look-up: its proof alone unfolds the definition of the table.
 fn place_in_table(name: &str) -> Option<PhysKeyCode>
     ensures { result ≡ bears places name.now }
 {
@@ -195,6 +195,7 @@ fn unread_name(key: PhysKeyCode) -> Option<&'static str>
 pub fn phys_name(key: PhysKeyCode) -> &'static str
     ensures { result.now ≡ place_name key }
 {
+    // `or`: a closure of `or_else` would have to say again what `unread_name` promises.
     read_name(key).or(unread_name(key)).unwrap_or("")
 }
 

@@ -21,27 +21,13 @@ mod tests {
         Some((fault.number(), fault.place()))
     }
 
-    fn character(name: &[u8]) -> Option<char> {
-        match read_key_name(name) {
-            Ok(KeyCode::Char(c)) => Some(c),
-            _ => None,
-        }
-    }
-
-    fn function(name: &[u8]) -> Option<u8> {
-        match read_key_name(name) {
-            Ok(KeyCode::Function(n)) => Some(n),
-            _ => None,
-        }
-    }
-
     #[test]
     fn keys_that_read(rt: HostRuntime) {
-        assert!(rt; character(b"F") == Some('F'));
-        assert!(rt; character(b"Return") == Some('\r'));
-        assert!(rt; function(b"F24") == Some(24));
-        assert!(rt; function(b"F+7") == Some(7));
-        assert!(rt; function(b"F007") == Some(7));
+        assert_eq!(rt; read_key_name(b"F"), Ok(KeyCode::Char('F')));
+        assert_eq!(rt; read_key_name(b"Return"), Ok(KeyCode::Char('\r')));
+        assert_eq!(rt; read_key_name(b"F24"), Ok(KeyCode::Function(24)));
+        assert_eq!(rt; read_key_name(b"F+7"), Ok(KeyCode::Function(7)));
+        assert_eq!(rt; read_key_name(b"F007"), Ok(KeyCode::Function(7)));
     }
 
     #[test]

@@ -36,7 +36,7 @@ fn without_control<'a>(key: KeyCode<'a>, modifiers: Modifiers) -> KeyCode<'a>
     ensures { result ≡ uncontrolled key.entry modifiers }
 {
     match key {
-        // No `map_or(key, KeyCode::Char)`: a function whose result alone names a lifetime has no proof there.
+        // A match: `KeyCode::Char`, whose result alone names a lifetime, gets no proof as an argument of `map_or`.
         KeyCode::Char(c) if modifiers.contains(Modifiers::CTRL) => match is_ascii_control(c) {
             Some(letter) => KeyCode::Char(letter),
             None => key,

@@ -34,7 +34,7 @@ impl NumberFault {
 }
 
 // One more digit at the end of a number.
-// Not by `parse`, which asks for UTF-8: of any bytes the first fault counts, as of 300 with a torn byte behind.
+// Not by `parse`, which wants UTF-8 first: in 300 with a byte behind that is no text, the 300 is the fault.
 fn add_digit(n: u8, b: u8) -> Result<u8, NumberKind>
     ensures { result ≡ with_digit n b }
 {

@@ -38,6 +38,7 @@ fn digit_more(value: Option<u32>, digit: u32, range: Range) -> Option<u32>
     }
 }
 
+// The bytes and a place, since the place after the number is answered as one of the whole.
 // From the place `at` on, a number of the range, or none, and the byte that ends it.
 pub fn digits(bytes: &[u8], at: usize, range: Range) -> Result<Ended, Fault>
     ensures { Ends range bytes.now at result }

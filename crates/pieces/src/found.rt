@@ -17,6 +17,7 @@ pub enum Range {
     Flags,
 }
 
+// A struct for each thing that is read, no generic one: a field named by what it holds is plainer than a value.
 // A number, if there is one, the byte after it, and the place after that.
 #[derive(Clone, Copy, Debug, PartialEq, Eq)]
 pub struct Ended {

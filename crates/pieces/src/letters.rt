@@ -33,6 +33,7 @@ fn tail(bytes: &[u8], at: usize) -> Result<u32, Fault>
     Ok(b as u32 - 0x80)
 }
 
+// The first byte's range is a premise, here and below: a struct for it would be made for one call.
 fn two(bytes: &[u8]) -> Result<Letter, Fault>
     requires some { 0 < length bytes.now }
     requires low { 194 ≤ slice_index bytes.now 0 }
@@ -75,7 +76,7 @@ fn four(bytes: &[u8]) -> Result<Letter, Fault>
 }
 
 // The character at the front, which may not be ESC.
-// By hand: `from_utf8` takes all it is given, so the front would be cut to four bytes, and what is good of it read a second time.
+// By hand: `from_utf8` reads all that it is given, and would read again what is good of the front.
 pub fn read_letter(bytes: &[u8]) -> Result<Letter, Fault>
     ensures { Spells Characters bytes.now result }
 {

@@ -3,7 +3,7 @@ ghost use Rattle.pieces.specs.Octets.{SaysOctet};
 
 use crate::found::Fault;
 
-// The bytes and a place, not a struct of both: readers answer the next place alone, so the struct would be made anew at each step.
+// The bytes and a place: each clause speaks of the bytes from a place, and a reader that moves would add its former place.
 pub fn octet(bytes: &[u8], at: usize) -> Result<u8, Fault>
     ensures { SaysOctet bytes.now at result }
 {

@@ -13,7 +13,7 @@ pub enum ReadFault {
 }
 
 impl ReadFault {
-    // The number of the refusal.
+    // The number of the refusal: a method, as other faults have it, since it is no other form of the fault.
     pub fn number(self) -> u8
         ensures { result ≡ fault_number self }
     {

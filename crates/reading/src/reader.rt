@@ -7,6 +7,7 @@ use pieces::found::Seen;
 
 pub trait Reader: Dialect {
     // The first clear report of the given bytes; its text goes to the front of `text`, whose rest stays.
+    // The caller lends the row of the text, since memory is fixed.
     fn read(&self, given: &[u8], text: &mut [u32]) -> Result<Seen, ReadFault>
         ensures { Fills (Self.Dialect.bytes self.now) given.now text.old text.new result };
 }

@@ -17,8 +17,8 @@ struct PartWords<'a> {
 struct EventWords<'a> {
     down: bool,
     own: PartWords<'a>,
-    raw: Option<PartWords<'a>>,
-    phys: Option<PhysKeyCode>,
+    // With the place of its key, where that is told.
+    raw: Option<(PartWords<'a>, Option<PhysKeyCode>)>,
 }
 
 // By the words of a query: in the event, down is a bool.
@@ -53,7 +53,6 @@ fn event_words<'a>(words: &mut Words<'a>) -> Result<EventWords<'a>, Bad> {
             down,
             own,
             raw: None,
-            phys: None,
         });
     }
     let raw = part_words(words)?;
@@ -61,8 +60,7 @@ fn event_words<'a>(words: &mut Words<'a>) -> Result<EventWords<'a>, Bad> {
     Ok(EventWords {
         down,
         own,
-        raw: Some(raw),
-        phys,
+        raw: Some((raw, phys)),
     })
 }
 
@@ -75,8 +73,9 @@ pub(crate) fn composed_text(heap: Global, key: &str) -> Result<Vec<u8>, Bad> {
 }
 
 fn raw_event<'a>(
-    words: &EventWords,
     raw: PartWords,
+    phys: Option<PhysKeyCode>,
+    down: bool,
     text: &'a [u8],
 ) -> Result<RawKeyEvent<'a>, Bad> {
     let key = read_key(raw.key, text)?;
@@ -84,10 +83,10 @@ fn raw_event<'a>(
         key,
         modifiers: raw.modifiers,
         leds: raw.leds,
-        phys_code: words.phys,
+        phys_code: phys,
         raw_code: 0,
         repeat_count: 1,
-        key_is_down: words.down,
+        key_is_down: down,
     })
 }
 
@@ -99,7 +98,7 @@ fn event_of<'a>(
     let key = read_key(words.own.key, own_text)?;
     let raw = words
         .raw
-        .map(|raw| raw_event(words, raw, raw_text))
+        .map(|(raw, phys)| raw_event(raw, phys, words.down, raw_text))
         .transpose()?;
     Ok(KeyEvent {
         key,
@@ -122,7 +121,7 @@ pub(crate) fn with_event<F: FnOnce(KeyEvent) -> Result<(), Refusal>>(
     let parts = event_words(words)?;
     let own = composed_text(heap, parts.own.key)?;
     let raw = match parts.raw {
-        Some(raw) => composed_text(heap, raw.key)?,
+        Some((raw, _)) => composed_text(heap, raw.key)?,
         None => Vec::new(heap),
     };
     put(event_of(&parts, own.as_slice(), raw.as_slice())?)

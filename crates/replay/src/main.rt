@@ -32,7 +32,7 @@ fn main(rt: HostRuntime) -> io::Result<()> {
     let mut input = BufReader::new(heap, rt.stdin())?;
     let mut out = BufWriter::new(heap, rt.stdout())?;
     let mut line = Vec::new(heap);
-    // The input has no known end, and a loop needs a bound: one that no input reaches.
+    // One buffer for all lines, which `split` would allocate each; the bound is one that no input reaches.
     for _ in 0..u64::MAX {
         line.clear();
         if input.read_until(b'\n', &mut line)? == 0 {

@@ -1,4 +1,4 @@
-// What answers are put together from.
+// What answers are put together from. Functions, no `Display`: the types are other crates'.
 use input_types::event::{KeyEvent, RawKeyEvent};
 use input_types::key_code::KeyCode;
 use input_types::phys_key_code::PhysKeyCode;
@@ -7,7 +7,7 @@ use names::phys_names::phys_name;
 use std::io;
 use std::io::Write;
 
-// The digits stand in a table: with `{b:02x}` at each byte an answer takes a fifth longer.
+// In a table: with `{b:02x}` an answer takes a fifth longer, and `encode_to_slice` wants a row for all of it.
 const HEX: [u8; 16] = *b"0123456789abcdef";
 
 pub(crate) fn put<W: Write>(out: &mut W, text: &str) -> io::Result<()> {

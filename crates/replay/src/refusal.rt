@@ -1,6 +1,7 @@
 // Why a query gets a refusal in place of an answer.
 use events::fault::Fault;
 use names::fault::NameFault;
+use reading::faults::ReadFault;
 use std::io;
 use thiserror::Error;
 
@@ -40,6 +41,7 @@ pub enum Refusal {
     Output(#[from] io::Error),
 }
 
+// One `From` for the three kinds of fault would need a trait over them.
 impl From<NameFault> for Refusal {
     fn from(fault: NameFault) -> Refusal {
         Refusal::Declined {
@@ -54,6 +56,15 @@ impl From<Fault> for Refusal {
         Refusal::Declined {
             number: fault.number(),
             place: fault.place(),
+        }
+    }
+}
+
+impl From<ReadFault> for Refusal {
+    fn from(fault: ReadFault) -> Refusal {
+        Refusal::Declined {
+            number: fault.number(),
+            place: 0,
         }
     }
 }

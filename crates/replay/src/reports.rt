@@ -19,7 +19,7 @@ pub(crate) fn flags_in(word: &str) -> Result<KittyKeyboardFlags, Bad> {
     KittyKeyboardFlags::from_bits(read_bits(word)?).ok_or(Bad::Bits)
 }
 
-// By the words of a query, which are no words of the direction's own crate.
+// Read here: the direction's own crate writes these words and reads none.
 fn direction_in(word: &str) -> Result<Direction, Bad> {
     match word {
         "press" => Ok(Direction::Press),
@@ -149,11 +149,6 @@ pub(crate) fn answer_read<W: Write, R: Reader>(
     let room = read_number::<u32>(words.last()?)? as usize;
     let mut row = [0u32; 64];
     let text = &mut row[0..room.min(64)];
-    match reader.read(bytes.as_slice(), text) {
-        Ok(seen) => Ok(put_seen(out, &seen, text)?),
-        Err(fault) => Err(Refusal::Declined {
-            number: fault.number(),
-            place: 0,
-        }),
-    }
+    let seen = reader.read(bytes.as_slice(), text)?;
+    Ok(put_seen(out, &seen, text)?)
 }

@@ -98,7 +98,7 @@ pub(crate) fn answer<W: Write>(heap: Global, out: &mut W, line: &str) -> Result<
     }
 }
 
-// The other queries stand apart: a function clears the room of all its locals at each call, and `encode` should not pay for theirs.
+// Apart from `encode`, which would pay for the locals of all: a function clears their room at each call.
 fn answer_other<W: Write>(
     heap: Global,
     out: &mut W,

@@ -9,6 +9,7 @@ use std::alloc::Global;
 use std::str::FromStr;
 
 // Words with a space between, those that are still to be read.
+// Not by `split`: an empty line has no word, and `are_just` looks at all that is left.
 #[derive(Drop)]
 pub struct Words<'a> {
     rest: &'a str,
@@ -85,6 +86,7 @@ where
     word.parse().map_err(|_| Bad::Number)
 }
 
+// As `read_number`, with a refusal of its own.
 pub(crate) fn read_bits(word: &str) -> Result<u16, Bad> {
     word.parse().map_err(|_| Bad::Bits)
 }

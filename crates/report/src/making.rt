@@ -27,8 +27,8 @@ pub fn after_escape(c: char) -> Report
     Report::Old(Scalar::new(c))
 }
 
-// What a sequence would consist of: some such parts make none. Its fields stand again in `Sequence`, which holds the
-// facts besides.
+// What a sequence would consist of: some such parts make none. Its fields stand again in `Sequence`: as one
+// field there, each reader of a sequence would name it too.
 #[derive(Clone, Copy)]
 pub struct Parts {
     pub number: u32,

@@ -1,5 +1,5 @@
-// The characters that a key press typed: at most 32, at the front of a fixed row. A row with its count beside it,
-// since a key allocates nothing, and a report is copied as it is.
+// The characters that a key press typed: at most 32, at the front of a fixed row. A row with its count beside it:
+// a report is copied as it is, and the library's vectors are not.
 ghost use Rattle.std.specs.Prelude.{◌≡◌, ◌≤◌, true, length, take};
 ghost use Rattle.std.proofs.Math.Utf8.{scalars};
 ghost use Rattle.report.specs.Pushes.{Pushed};

@@ -76,6 +76,7 @@ impl Input<'_> {
                 && (own.contains(Modifiers::CTRL) || own.contains(Modifiers::ALT)))
     }
 
+    // That a code is in range is a clause: `Sequence` has plain numbers as fields, and holds the fact of them.
     fn shifted_code(&self, c: char, base: char) -> Option<u32>
         ensures value { result ≡ shifted_code self.now.flags.bits (reported (event_of self.now.key)) c base }
         ensures bound { coded result ≡ true }

@@ -105,7 +105,7 @@ const PADS: [Pad; 18] = [
     },
 ];
 
-// The place of a key of the keypad in the table.
+// The place of a key of the keypad in the table: a match, since a search would compare up to 18 keys one by one.
 fn pad_place(phys: PhysKeyCode) -> Option<usize>
     ensures place { result ≡ pad_place phys }
     ensures bound { IfSome result (λ i. i < 18) }

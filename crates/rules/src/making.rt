@@ -10,8 +10,8 @@ use report::report::Report;
 use report::sequence::Sequence;
 use report::text::Text;
 
-// A number and a final, with no codes and no text. The bound of numbers is a premise, since `Sequence` holds it by
-// its type and nothing smaller than a sequence is made of a number.
+// A number and a final, with no codes and no text. The bound of numbers is
+// a premise: `Sequence` has plain numbers as fields, and holds the fact of them.
 pub(crate) fn bare_key(number: u32, last: Last, stroke: &Stroke) -> Report
     requires { (number ≤ 1114111) × (suits last number Absent Absent 0 ≡ true) }
     ensures { means result ≡ bare number last (plain_stroke stroke.now) }

@@ -68,6 +68,7 @@ pub fn handed<'a>(call: &'a Call<'a>, answer: Result<usize, Refusal>) -> usize
 }
 
 // What a list of calls leaves: the seat, how many calls were made, and how many bytes they drained.
+// Counts beside the rows that the caller lends: a seat allocates nothing.
 #[derive(Drop)]
 pub struct Finished<W, L, D> {
     pub seat: Seat<W, L, D>,

@@ -1,5 +1,5 @@
-// The calls of a seat. Settings, modes and screens come as whole numbers, so that an unlisted one can come and is
-// refused.
+// The calls of a seat.
+// Settings, counts, modes and screens are whole numbers, so that an unlisted one can come and is refused.
 ghost use Rattle.std.specs.Prelude.{◌≡◌, ◌≤◌, [], length, take, drop, MatchResult};
 ghost use Rattle.report.specs.Meanings.{means};
 ghost use Rattle.events.specs.Events.{plain_event};

@@ -1,6 +1,6 @@
 // Reads what follows ESC [, part by part. The bytes and a place go from part to part, since a slice alone would lose the
-// place, which is told at the end; a struct of both would be made anew at each step. What a part read goes into the
-// head field by field, since a struct with facts beside its fields takes no `..head`.
+// place, which is told at the end, and a reader that moves would add its former place to each clause. What a part read
+// goes into the head field by field, since a struct with facts beside its fields takes no `..head`.
 ghost use Rattle.std.specs.Prelude.{◌≤◌, [], length};
 ghost use Rattle.report.specs.Meanings.{characters};
 ghost use Rattle.sequences.specs.Leads.{lead};

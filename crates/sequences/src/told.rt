@@ -5,7 +5,7 @@ ghost use Rattle.report.specs.Sound.{coded};
 use report::ending::Direction;
 use report::sequence::Sequence;
 
-// A sequence and the place after it.
+// A sequence and the place after it, each named by what it is.
 #[derive(Clone, Copy)]
 pub struct Told {
     pub sequence: Sequence,
@@ -13,6 +13,7 @@ pub struct Told {
 }
 
 // What stands before the text of a sequence, in range before the rest is read.
+// Its fields stand again in `Sequence`, whose facts need the last byte and the text, which are not read yet.
 #[derive(Clone, Copy)]
 pub struct Head {
     pub number: u32,

@@ -4,7 +4,7 @@ ghost use Rattle.settings.specs.Stack.{top_of, pushed, popped, topped};
 
 use input_types::flags::KittyKeyboardFlags;
 
-// No `==`: two rows that hold the same settings may differ in the places beyond.
+// No `==` and no model: two rows that hold the same settings may differ in the places beyond.
 #[derive(Clone, Copy)]
 pub struct Row {
     settings: [KittyKeyboardFlags; 8],

@@ -30,6 +30,7 @@ impl TryFrom<usize> for Screen {
     }
 }
 
+// No `==` and no model, as `Row` has none.
 #[derive(Clone, Copy)]
 pub struct Settings {
     rows: [Row; 2],

@@ -9,7 +9,8 @@ use input_types::key_code::KeyCode;
 use input_types::phys_key_code::PhysKeyCode;
 use tables::Named;
 
-// A type whose variants have numbers, whatever they hold: there is no `mem::discriminant`, and `==` would compare what they hold too.
+// A type whose variants have numbers, whatever they hold.
+// By number: there is no `mem::discriminant`, and `==` compares what a variant holds too.
 pub trait Variant {
     ghost variant: { Self → ℕ };
 

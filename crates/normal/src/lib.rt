@@ -11,6 +11,7 @@ use input_types::key_code::KeyCode;
 use input_types::modifiers::Modifiers;
 use input_types::phys_key_code::PhysKeyCode;
 
+// By hand: modifiers have no `difference`, which one use would make a public function.
 fn without_shift(modifiers: Modifiers) -> Modifiers
     ensures { result.bits ≡ without modifiers.bits shift }
 {
@@ -93,17 +94,19 @@ impl Normal for KeyEvent<'_> {
     ghost positional_form = { surfaced };
 
     fn normalize_shift(self) -> Self {
-        let mut event = self;
-        let (key, modifiers) = normalize_key_shift(event.key, event.modifiers);
-        event.key = key;
-        event.modifiers = modifiers;
-        event
+        let (key, modifiers) = normalize_key_shift(self.key, self.modifiers);
+        KeyEvent {
+            key,
+            modifiers,
+            ..self
+        }
     }
 
     fn normalize_ctrl(self) -> Self {
-        let mut event = self;
-        event.key = without_control(event.key, event.modifiers);
-        event
+        KeyEvent {
+            key: without_control(self.key, self.modifiers),
+            ..self
+        }
     }
 
     fn resurface_positional_modifier_key(self) -> Self {

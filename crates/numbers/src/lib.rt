@@ -79,7 +79,7 @@ pub fn read_within(text: &[u8], place: usize, low: u8, high: u8) -> Result<u8, N
     ensures { result ≡ placed place (within low high (number_of text.now)) }
 {
     let n = read_u8(text, place)?;
-    if n < low || n > high {
+    if !(low..=high).contains(&n) {
         return Err(NumberFault {
             kind: NumberKind::OutOfRange,
             place,

@@ -44,7 +44,7 @@ pub fn digits(bytes: &[u8], at: usize, range: Range) -> Result<Ended, Fault>
     ensures { Ends range bytes.now at result }
 {
     let mut value = None;
-    // By places, since the number may begin past the end, where there is no slice.
+    // By places: over `enumerate` and `skip` three goals of the loop did not close.
     for i in at..bytes.len() {
         let mark = bytes[i];
         if !mark.is_ascii_digit() {

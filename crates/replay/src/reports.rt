@@ -109,6 +109,7 @@ fn put_text<W: Write>(out: &mut W, codes: &[u32]) -> io::Result<()> {
     Ok(())
 }
 
+// The row goes beside the report, here and below: its text is told as the reader stored it.
 fn put_sequence<W: Write>(out: &mut W, s: &Sequence, row: &[u32]) -> io::Result<()> {
     write!(out, "seq {} ", s.number)?;
     put_optional(out, s.shifted, "-", |out, code| write!(out, "{code}"))?;

@@ -10,6 +10,7 @@ use std::str::FromStr;
 
 // Words with a space between, those that are still to be read.
 // Not by `split`: an empty line has no word, and `are_just` looks at all that is left.
+// Without the allocator: each function that allocates says so by taking it.
 #[derive(Drop)]
 pub struct Words<'a> {
     rest: &'a str,
@@ -104,6 +105,7 @@ pub(crate) fn read_key<'a>(word: &str, text: &'a [u8]) -> Result<KeyCode<'a>, Ba
     }
 }
 
+// The names that `read_key_name` does not read: a query may name every key.
 fn read_plain_key(word: &str) -> Result<KeyCode<'static>, Bad> {
     match word {
         "KeyPadHome" => Ok(KeyCode::KeyPadHome),
@@ -123,7 +125,7 @@ fn by_own_name(word: &str) -> Result<KeyCode<'static>, Bad> {
     }
 }
 
-// A place by the name of its case: a letter is a capital, a digit stands after K.
+// A place by the name of its case: a letter is a capital, a digit stands after K. Four have no name that is read.
 pub(crate) fn read_place(word: &str) -> Result<PhysKeyCode, Bad> {
     match word {
         "F21" => Ok(PhysKeyCode::F21),

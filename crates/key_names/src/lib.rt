@@ -160,5 +160,6 @@ pub fn plain_name(key: KeyCode<'_>) -> &'static str
     ensures { result.now ≡ plain_name key.entry }
 {
     // `or`: a closure of `or_else` would have to say again what `unread_name` promises.
+    // Where no table has a name it is empty, as `Display` would print it; an Option would be unpacked to that.
     read_name(key).or(unread_name(key)).unwrap_or("")
 }

@@ -39,7 +39,7 @@ impl From<NumberFault> for NameFault {
 }
 
 impl NameFault {
-    // The number by which documents and programs know the refusal.
+    // The number by which documents and programs know the refusal: a match, since variants hold something.
     pub fn number(self) -> u8
         ensures { result ≡ refusal_of self }
     {

@@ -196,6 +196,7 @@ pub fn phys_name(key: PhysKeyCode) -> &'static str
     ensures { result.now ≡ place_name key }
 {
     // `or`: a closure of `or_else` would have to say again what `unread_name` promises.
+    // Where no table has a name it is empty, as `Display` would print it; an Option would be unpacked to that.
     read_name(key).or(unread_name(key)).unwrap_or("")
 }
 

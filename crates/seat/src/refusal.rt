@@ -35,7 +35,7 @@ impl From<NoRoom> for Refusal {
 }
 
 impl Refusal {
-    // The number by which documents and programs know the refusal.
+    // The number by which documents and programs know the refusal: a match, since variants hold something.
     pub fn number(self) -> u8
         ensures { result ≡ refusal_number self }
     {

@@ -28,9 +28,9 @@ pub enum Call<'a> {
 
 // Makes one call, and answers its count; what a drain hands over stands at the front of the buffer, whose rest
 // stays.
-pub fn make<'a, W: Wire, L: Layout, D: Dialect>(
+pub fn make<W: Wire, L: Layout, D: Dialect>(
     seat: &mut Seat<W, L, D>,
-    call: &'a Call<'a>,
+    call: &Call,
     buffer: &mut [u8],
 ) -> Result<usize, Refusal>
     ensures steps { Steps (view_of W.Wire L.Layout D.Dialect seat.old) (call_of (length buffer.old) call.now) (counted result) (moved_by call.now result buffer.new) (view_of W.Wire L.Layout D.Dialect seat.new) }
@@ -53,7 +53,7 @@ pub fn make<'a, W: Wire, L: Layout, D: Dialect>(
 }
 
 // How many bytes an answered call handed over.
-pub fn handed<'a>(call: &'a Call<'a>, answer: Result<usize, Refusal>) -> usize
+pub fn handed(call: &Call, answer: Result<usize, Refusal>) -> usize
     ensures { result ≡ handedBy call.now answer }
 {
     match call {
@@ -79,17 +79,18 @@ pub struct Finished<W, L, D> {
 // Opens a seat and makes the calls in order, as many as there is room for answers. The answers stand in the front
 // of their row, the drained bytes one after another in the front of the buffer, and the rest of both stays. Over an
 // empty wire, the bytes of the whole history have one reading then.
-pub fn replay<'a, W: Wire, L: Layout, D: Dialect>(
+pub fn replay<W: Wire, L: Layout, D: Dialect>(
     wire: W,
     layout: L,
     dialect: D,
-    calls: &'a [Call<'a>],
+    calls: &[Call],
     answers: &mut [Result<usize, Refusal>],
     buffer: &mut [u8],
 ) -> Finished<W, L, D>
     ensures made { result.made ≡ min (length calls.now) (length answers.old) }
     ensures terms { (view_of W.Wire L.Layout D.Dialect result.seat).terms ≡ record { base = L.base layout; bytes = D.bytes dialect; capacity = W.capacity wire } }
     ensures reading { W.waiting wire ≡ [] → Replayed (view_of W.Wire L.Layout D.Dialect result.seat) (length buffer.old) (take result.made calls.now) (take result.made answers.new) (take result.drained buffer.new) }
+    ensures within { result.drained ≤ length buffer.old }
     ensures answers_rest { drop result.made answers.new ≡ drop result.made answers.old }
     ensures buffer_rest { drop result.drained buffer.new ≡ drop result.drained buffer.old }
 {

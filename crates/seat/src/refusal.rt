@@ -1,9 +1,10 @@
 // Why a seat declines a call.
-ghost use Rattle.std.specs.Prelude.{◌≡◌};
-ghost use Rattle.seat.specs.Refusals.{refusal_number, refusal_place};
+ghost use Rattle.std.specs.Prelude.{◌≡◌, Some};
+ghost use Rattle.seat.specs.Refusals.{refusal_meaning, refusal_number, refusal_place};
 ghost use Rattle.seat.specs.declared.refusal.Refusal.TheVariants.{Event as OfEvent, NoRoom as Full};
 
 use events::fault::Fault;
+use std::fmt;
 use wire::NoRoom;
 
 #[derive(Clone, Copy, Debug, PartialEq, Eq)]
@@ -55,6 +56,19 @@ impl Refusal {
         match self {
             Refusal::Event(fault) => fault.place(),
             Refusal::NoRoom | Refusal::Flags | Refusal::Value => 0,
+        }
+    }
+}
+
+impl fmt::Display for Refusal {
+    ghost output = { λ refusal. Some (refusal_meaning refusal) };
+
+    fn fmt<W: fmt::Write>(&self, f: &mut fmt::Formatter<W>) -> fmt::Result {
+        match self {
+            Refusal::Event(fault) => fault.fmt(f),
+            Refusal::NoRoom => f.write_str("a report longer than what is free"),
+            Refusal::Flags => f.write_str("settings above 31"),
+            Refusal::Value => f.write_str("a count of zero, an unknown mode, or a screen above 1"),
         }
     }
 }

@@ -1,0 +1,4 @@
+pub mod Bases
+pub mod Unshifted
+pub mod Waiting
+pub mod Within

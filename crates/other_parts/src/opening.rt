@@ -30,8 +30,8 @@ pub fn open_french() -> Seat<Tray, French, Kitty>
 
 // Makes the calls of a list on such a seat, as many as there is room for answers; what is drained stands in the front
 // of the buffer.
-pub fn replay_french<'a>(
-    calls: &'a [Call<'a>],
+pub fn replay_french(
+    calls: &[Call],
     answers: &mut [Result<usize, Refusal>],
     buffer: &mut [u8],
 ) -> Finished<Tray, French, Kitty>

@@ -1,6 +1,6 @@
 // Seats at run time, over this wire and this layout, a ring and a page. What is wanted follows by hand from the rules.
 use crate::french::French;
-use crate::opening::open_french;
+use crate::opening::{open_french, replay_french};
 use crate::tray::Tray;
 use dialect::kitty::Kitty;
 use input_types::event::{KeyEvent, RawKeyEvent};
@@ -8,6 +8,7 @@ use input_types::key_code::KeyCode;
 use input_types::modifiers::{KeyboardLedStatus, Modifiers};
 use input_types::phys_key_code::PhysKeyCode;
 use layout::Layout;
+use script::Call;
 use seat::refusal::Refusal;
 use seat::seat::Seat;
 use wire::Wire;
@@ -219,4 +220,36 @@ fn refusals_change_nothing(rt: HostRuntime) {
     let text = press(KeyCode::Composed(b"ab\xff"), Modifiers::NONE);
     assert!(rt; refusal(seat.key(&text)) == Some((1, 2)));
     assert!(rt; asked(&mut seat) == *b"\x1b[?6u\0");
+}
+
+// A drain asks for no more than what the drains before it left of the buffer; a call without room for its answer is
+// not made.
+#[test]
+fn a_list_of_calls(rt: HostRuntime) {
+    let calls = [
+        Call::Push(1),
+        Call::Key(letter('a')),
+        Call::Query,
+        Call::Drain(4),
+        Call::Screen(2),
+        Call::Drain(9),
+        Call::Pop(1),
+        Call::Query,
+    ];
+    let mut answers = [Ok(9); 7];
+    let mut out = [9; 8];
+    let finished = replay_french(&calls, &mut answers, &mut out);
+    assert_eq!(rt; finished.made, 7);
+    assert_eq!(rt; finished.drained, 6);
+    let wanted = [
+        Ok(0),
+        Ok(1),
+        Ok(5),
+        Ok(4),
+        Err(Refusal::Value),
+        Ok(2),
+        Ok(0),
+    ];
+    assert!(rt; answers == wanted);
+    assert!(rt; out == *b"a\x1b[?1u\x09\x09");
 }

@@ -3,18 +3,8 @@ import model
 
 def outside(query):
     """The refusal of an event outside the checked ranges, or None."""
-    w = query.split(" ")
-    parts = [(w[3], w[4], w[5])] + ([(w[6], w[7], w[8])] if w[6] != "-" else [])
-    for word, mods, leds in parts:
-        kind, v = model.key(word)
-        if kind == "char" and 0xE000 <= ord(v) <= 0xF8FF:
-            return "declined 5 0"
-        if (kind == "function" and not 1 <= v <= 35) or (kind == "numpad" and v > 9) or int(mods) & 0xE001 or int(leds) & 0xF9:
-            return "declined 6 0"
-        if kind == "text" and len(v) > 32:
-            return f"declined 7 {len(v[:32].encode())}"
-    return None
-
+    fault = model.refused(query.split(" ")[2:])
+    return fault and f"declined {fault[0]} {fault[1]}"
 
 
 def named_refusal(text):

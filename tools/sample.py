@@ -5,13 +5,15 @@
 
 Each answer is the Rust's own where no listed difference applies, and the rule's where one does; data/corrected.txt
 says for each such line its number, from 1, and which difference it is. Queries that the Rust does not have (reports,
-frames, readers) stand in tools/sample_reports.txt with answers from the written formats.
+frames, readers) stand in tools/sample_reports.txt with answers from the written formats; what a seat and the reader of
+requests answer is the plain seat's (sample_seat.py).
 """
 import pathlib
 import random
 import subprocess
 import sys
 
+import sample_seat
 from expected import expected
 
 ORACLE = sys.argv[1]
@@ -84,6 +86,9 @@ def main():
             query, answer = row.split("\t")
             asked.append(query)
             lines.append(answer)
+    for query, answer in sample_seat.rows(sample_seat.events_in(asked), 3000, 2028):
+        asked.append(query)
+        lines.append(answer)
     (CRATE / "stdin").write_text("".join(q + "\n" for q in asked))
     (CRATE / "stdout").write_text("".join(a + "\n" for a in lines))
     (CRATE / "data").mkdir(exist_ok=True)

@@ -28,6 +28,8 @@ pub enum Bad {
     Report,
     #[error("memory")]
     Memory,
+    #[error("seat")]
+    Seat,
 }
 
 #[derive(Debug, Drop, Error)]
@@ -41,7 +43,7 @@ pub enum Refusal {
     Output(#[from] io::Error),
 }
 
-// One `From` for the three kinds of fault would need a trait over them.
+// One `From` for the four kinds of fault would need a trait over them.
 impl From<NameFault> for Refusal {
     fn from(fault: NameFault) -> Refusal {
         Refusal::Declined {
@@ -65,6 +67,15 @@ impl From<ReadFault> for Refusal {
         Refusal::Declined {
             number: fault.number(),
             place: 0,
+        }
+    }
+}
+
+impl From<seat::refusal::Refusal> for Refusal {
+    fn from(refusal: seat::refusal::Refusal) -> Refusal {
+        Refusal::Declined {
+            number: refusal.number(),
+            place: refusal.place(),
         }
     }
 }

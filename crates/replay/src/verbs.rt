@@ -1,4 +1,4 @@
-// The answer to each query.
+// The answer to each query that needs no seat.
 ghost use Rattle.std.specs.Prelude.{ℕ, ◌≤◌, length, Ok};
 
 use crate::event_words::{composed_text, with_event};
@@ -26,7 +26,7 @@ use normal::Normal;
 use std::alloc::Global;
 use std::io::Write;
 
-fn answer_encode<W: Write, D: Dialect>(
+pub(crate) fn answer_encode<W: Write, D: Dialect>(
     heap: Global,
     out: &mut W,
     dialect: &D,
@@ -89,17 +89,8 @@ fn modifiers_in(words: &mut Words) -> Result<Modifiers, Bad> {
     })
 }
 
-pub(crate) fn answer<W: Write>(heap: Global, out: &mut W, line: &str) -> Result<(), Refusal> {
-    let words = &mut Words::new(line);
-    match words.next()? {
-        "encode" => answer_encode(heap, out, &Kitty, words),
-        "frame" => answer_encode(heap, out, &Frames, words),
-        verb => answer_other(heap, out, verb, words),
-    }
-}
-
 // Apart from `encode`, which would pay for the locals of all: a function clears their room at each call.
-fn answer_other<W: Write>(
+pub(crate) fn answer_other<W: Write>(
     heap: Global,
     out: &mut W,
     verb: &str,

@@ -35,14 +35,20 @@ impl<'a> Words<'a> {
         Ok(word)
     }
 
-    // The next word, behind which there is none.
-    pub(crate) fn last(&mut self) -> Result<&'a str, Bad> {
-        let word = self.next()?;
+    // No word is left.
+    pub(crate) fn end(&self) -> Result<(), Bad> {
         if self.rest.is_empty() {
-            Ok(word)
+            Ok(())
         } else {
             Err(Bad::Words)
         }
+    }
+
+    // The next word, behind which there is none.
+    pub(crate) fn last(&mut self) -> Result<&'a str, Bad> {
+        let word = self.next()?;
+        self.end()?;
+        Ok(word)
     }
 }
 

@@ -1,4 +1,4 @@
-// Answers queries that come one a line, each by one line; calls of a seat are made of the one that was opened last.
+// Answers queries that come one a line, each by one line; a call goes to the seat that was opened last.
 #![tactic(auto)]
 
 mod event_words;
@@ -25,7 +25,7 @@ fn main(rt: HostRuntime) -> io::Result<()> {
     let input = BufReader::new(heap, rt.stdin())?;
     let out = BufWriter::new(heap, rt.stdout())?;
     let mut session = Session::new(heap, input, out);
-    // No seat yet, of any kind.
+    // No seat yet; its type is one that a seat can have.
     let mut next = serve(&mut session, None::<Seat<Ring, Us, Kitty>>)?;
     // The bound is one that no input reaches.
     for _ in 0..u64::MAX {

@@ -73,7 +73,7 @@ fn read_wire(heap: Global, word: &str) -> Result<WireWord, Bad> {
     Ok(WireWord::Page(bytes))
 }
 
-// A page is had last, when all words are read.
+// A page is taken last, when the other words are known.
 pub(crate) fn read_opening(heap: Global, words: &mut Words) -> Result<Opening, Bad> {
     let wire = words.next()?;
     let dialect = words.next()?;
@@ -87,7 +87,7 @@ pub(crate) fn read_opening(heap: Global, words: &mut Words) -> Result<Opening, B
     })
 }
 
-// A part of the seat is chosen by each of these three.
+// This and the two functions below choose a part of the seat each.
 impl Opening {
     // Opens the seat, and answers lines with it.
     pub(crate) fn serve<I: BufRead, O: Write>(

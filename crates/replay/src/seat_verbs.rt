@@ -2,7 +2,6 @@
 use crate::event_words::with_event;
 use crate::print::{put, put_bytes};
 use crate::refusal::{Bad, Refusal};
-use crate::verbs::answer_other;
 use crate::words::{Words, read_number};
 use dialect::dialect::Dialect;
 use layout::Layout;
@@ -15,10 +14,6 @@ use wire::Wire;
 
 // The most bytes that a line may drain.
 const MOST: usize = 65536;
-
-fn held<S>(seat: &mut Option<S>) -> Result<&mut S, Bad> {
-    seat.as_mut().ok_or(Bad::Seat)
-}
 
 fn put_count<O: Write>(out: &mut O, count: usize) -> io::Result<()> {
     write!(out, "{count}")
@@ -79,22 +74,27 @@ fn answer_set<O: Write, W: Wire, L: Layout, D: Dialect>(
     put_done(out, seat.set(read_number(flags)?, read_number(mode)?))
 }
 
-// Calls go to the seat, if one is open, and other verbs on.
-pub(crate) fn answer<O: Write, W: Wire, L: Layout, D: Dialect>(
+pub(crate) fn is_call(verb: &str) -> bool {
+    matches!(
+        verb,
+        "key" | "push" | "pop" | "set" | "screen" | "query" | "drain"
+    )
+}
+
+pub(crate) fn answer_call<O: Write, W: Wire, L: Layout, D: Dialect>(
     heap: Global,
     out: &mut O,
-    seat: &mut Option<Seat<W, L, D>>,
-    verb: &str,
+    seat: &mut Seat<W, L, D>,
     words: &mut Words,
 ) -> Result<(), Refusal> {
-    match verb {
-        "key" => answer_key(heap, out, held(seat)?, words),
-        "push" => put_done(out, held(seat)?.push(read_number(words.last()?)?)),
-        "pop" => put_done(out, held(seat)?.pop(read_number(words.last()?)?)),
-        "set" => answer_set(out, held(seat)?, words),
-        "screen" => put_done(out, held(seat)?.screen(read_number(words.last()?)?)),
-        "query" => answer_query(out, held(seat)?, words),
-        "drain" => answer_drain(heap, out, held(seat)?, words),
-        _ => answer_other(heap, out, verb, words),
+    match words.next()? {
+        "key" => answer_key(heap, out, seat, words),
+        "push" => put_done(out, seat.push(read_number(words.last()?)?)),
+        "pop" => put_done(out, seat.pop(read_number(words.last()?)?)),
+        "set" => answer_set(out, seat, words),
+        "screen" => put_done(out, seat.screen(read_number(words.last()?)?)),
+        "query" => answer_query(out, seat, words),
+        "drain" => answer_drain(heap, out, seat, words),
+        _ => Err(Bad::Verb.into()),
     }
 }

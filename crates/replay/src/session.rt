@@ -1,10 +1,9 @@
 // What goes on from line to line, and the loop over the lines.
 use crate::opening::{Opening, read_opening};
-use crate::print::put;
 use crate::refusal::{Bad, Refusal};
 use crate::requests::answer_request;
-use crate::seat_verbs;
-use crate::verbs::answer_encode;
+use crate::seat_verbs::{answer_call, is_call};
+use crate::verbs::{answer_encode, answer_other};
 use crate::words::Words;
 use dialect::dialect::Dialect;
 use dialect::kitty::Kitty;
@@ -28,6 +27,20 @@ pub struct Session<I, O> {
     requests: Reader,
 }
 
+// The line that comes after those that need no seat.
+#[derive(Drop)]
+enum Next {
+    // It stands in the buffer still.
+    Call,
+    Opening(Opening),
+    End,
+}
+
+fn words_of(line: &[u8]) -> Result<Words, Bad> {
+    let text = std::str::from_utf8(line).map_err(|_| Bad::Words)?;
+    Ok(Words::new(text.trim_end()))
+}
+
 impl<I: BufRead, O: Write> Session<I, O> {
     pub(crate) fn new(heap: Global, input: I, out: O) -> Session<I, O> {
         Session {
@@ -43,43 +56,56 @@ impl<I: BufRead, O: Write> Session<I, O> {
         self.out.flush()
     }
 
-    // Answers the line; one that opens a seat is answered whole, and handed on.
-    fn answer<W: Wire, L: Layout, D: Dialect>(
-        &mut self,
-        seat: &mut Option<Seat<W, L, D>>,
-    ) -> Result<Option<Opening>, Refusal> {
+    // Answers the line, unless it is for the seat or opens one.
+    fn answer(&mut self) -> Result<Option<Next>, Refusal> {
         let heap = self.heap;
         let out = &mut self.out;
-        let text = std::str::from_utf8(self.line.as_slice()).map_err(|_| Bad::Words)?;
-        let words = &mut Words::new(text.trim_end());
+        let words = &mut words_of(self.line.as_slice())?;
         match words.next()? {
             "encode" => answer_encode(heap, out, &Kitty, words)?,
             "frame" => answer_encode(heap, out, &Frames, words)?,
             "request" => answer_request(heap, out, &mut self.requests, words)?,
-            "open" => {
-                let opening = read_opening(heap, words)?;
-                put(out, "ok")?;
-                return Ok(Some(opening));
-            }
-            verb => seat_verbs::answer(heap, out, seat, verb, words)?,
+            "open" => return Ok(Some(Next::Opening(read_opening(heap, words)?))),
+            verb if is_call(verb) => return Ok(Some(Next::Call)),
+            verb => answer_other(heap, out, verb, words)?,
         }
         Ok(None)
     }
 
-    fn answer_line<W: Wire, L: Layout, D: Dialect>(
+    fn finish_line(&mut self, answered: Result<(), Refusal>) -> io::Result<()> {
+        match answered {
+            Ok(()) => {}
+            Err(Refusal::Output(fault)) => return Err(fault),
+            Err(refusal) => write!(self.out, "{refusal}")?,
+        }
+        self.out.write_all(b"\n")
+    }
+
+    // Answers lines up to one that is for the seat, or opens one.
+    // The same for every seat: lines such as `encode` come by the million, and their loop is one function.
+    fn next(&mut self) -> io::Result<Next> {
+        // The bound is one that no input reaches.
+        for _ in 0..u64::MAX {
+            self.line.clear();
+            if self.input.read_until(b'\n', &mut self.line)? == 0 {
+                break;
+            }
+            match self.answer() {
+                Ok(None) => self.finish_line(Ok(()))?,
+                Ok(Some(next)) => return Ok(next),
+                Err(refusal) => self.finish_line(Err(refusal))?,
+            }
+        }
+        Ok(Next::End)
+    }
+
+    fn call<W: Wire, L: Layout, D: Dialect>(
         &mut self,
         seat: &mut Option<Seat<W, L, D>>,
-    ) -> io::Result<Option<Opening>> {
-        let opening = match self.answer(seat) {
-            Ok(opening) => opening,
-            Err(Refusal::Output(fault)) => return Err(fault),
-            Err(refusal) => {
-                write!(self.out, "{refusal}")?;
-                None
-            }
-        };
-        self.out.write_all(b"\n")?;
-        Ok(opening)
+    ) -> Result<(), Refusal> {
+        let words = &mut words_of(self.line.as_slice())?;
+        let seat = seat.as_mut().ok_or(Bad::Seat)?;
+        answer_call(self.heap, &mut self.out, seat, words)
     }
 }
 
@@ -91,12 +117,16 @@ pub(crate) fn serve<I: BufRead, O: Write, W: Wire + Drop, L: Layout + Drop, D: D
     let mut seat = seat;
     // The bound is one that no input reaches.
     for _ in 0..u64::MAX {
-        session.line.clear();
-        if session.input.read_until(b'\n', &mut session.line)? == 0 {
-            break;
-        }
-        if let Some(opening) = session.answer_line(&mut seat)? {
-            return Ok(Some(opening));
+        match session.next()? {
+            Next::Call => {
+                let answered = session.call(&mut seat);
+                session.finish_line(answered)?;
+            }
+            Next::Opening(opening) => {
+                session.out.write_all(b"ok\n")?;
+                return Ok(Some(opening));
+            }
+            Next::End => break,
         }
     }
     Ok(None)

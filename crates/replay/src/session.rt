@@ -72,13 +72,12 @@ impl<I: BufRead, O: Write> Session<I, O> {
         Ok(None)
     }
 
-    fn finish_line(&mut self, answered: Result<(), Refusal>) -> io::Result<()> {
-        match answered {
-            Ok(()) => {}
-            Err(Refusal::Output(fault)) => return Err(fault),
-            Err(refusal) => write!(self.out, "{refusal}")?,
+    // A refusal for an answer; where none can be written, the fault goes on.
+    fn refuse(&mut self, refusal: Refusal) -> io::Result<()> {
+        match refusal {
+            Refusal::Output(fault) => Err(fault),
+            _ => writeln!(self.out, "{refusal}"),
         }
-        self.out.write_all(b"\n")
     }
 
     // Answers lines up to one that is for the seat, or opens one.
@@ -91,9 +90,9 @@ impl<I: BufRead, O: Write> Session<I, O> {
                 break;
             }
             match self.answer() {
-                Ok(None) => self.finish_line(Ok(()))?,
+                Ok(None) => self.out.write_all(b"\n")?,
                 Ok(Some(next)) => return Ok(next),
-                Err(refusal) => self.finish_line(Err(refusal))?,
+                Err(refusal) => self.refuse(refusal)?,
             }
         }
         Ok(Next::End)
@@ -118,10 +117,10 @@ pub(crate) fn serve<I: BufRead, O: Write, W: Wire + Drop, L: Layout + Drop, D: D
     // The bound is one that no input reaches.
     for _ in 0..u64::MAX {
         match session.next()? {
-            Next::Call => {
-                let answered = session.call(&mut seat);
-                session.finish_line(answered)?;
-            }
+            Next::Call => match session.call(&mut seat) {
+                Ok(()) => session.out.write_all(b"\n")?,
+                Err(refusal) => session.refuse(refusal)?,
+            },
             Next::Opening(opening) => {
                 session.out.write_all(b"ok\n")?;
                 return Ok(Some(opening));

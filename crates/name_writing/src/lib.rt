@@ -4,4 +4,4 @@
 pub mod flags;
 pub mod keys;
 mod pieces;
-mod put;
+pub mod put;

@@ -6,7 +6,7 @@ use names::fault::NameFault;
 
 // Puts a name to the front of a buffer, whose rest stays, and answers how many bytes it has.
 // To a lent buffer, since memory is fixed.
-pub(crate) fn put(buffer: &mut [u8], name: &str) -> Result<usize, NameFault>
+pub fn put(buffer: &mut [u8], name: &str) -> Result<usize, NameFault>
     ensures { (result, buffer.new) ≡ written name.now buffer.old }
 {
     let count = name.len();

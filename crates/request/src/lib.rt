@@ -6,6 +6,8 @@ ghost use Rattle.request.specs.declared.State.{State};
 ghost use Rattle.request.specs.Steps.{more, stands as standing, ends as ending, spoiled, step};
 ghost use Rattle.request.specs.Reading.{Ended, Hears, OneWay, ended};
 
+pub mod resuming;
+
 // What a host asks for: flags, a count, flags with a mode, or the setting in force.
 // Whole numbers, as a host sends them, so that unlisted flags or an unlisted mode can come.
 #[derive(Clone, Copy, Debug, PartialEq, Eq)]

@@ -4,4 +4,5 @@
 mod calls;
 mod mode;
 pub mod refusal;
+mod resuming;
 pub mod seat;

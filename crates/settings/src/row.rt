@@ -7,8 +7,8 @@ use input_types::flags::KittyKeyboardFlags;
 // No `==` and no model: two rows that hold the same settings may differ in the places beyond.
 #[derive(Clone, Copy)]
 pub struct Row {
-    settings: [KittyKeyboardFlags; 8],
-    held: usize,
+    pub(crate) settings: [KittyKeyboardFlags; 8],
+    pub(crate) held: usize,
     ghost some: { 1 ≤ held },
     ghost most: { held ≤ 8 },
 }

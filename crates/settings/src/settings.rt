@@ -33,8 +33,8 @@ impl TryFrom<usize> for Screen {
 // No `==` and no model, as `Row` has none.
 #[derive(Clone, Copy)]
 pub struct Settings {
-    rows: [Row; 2],
-    shown: Screen,
+    pub(crate) rows: [Row; 2],
+    pub(crate) shown: Screen,
 }
 
 impl Settings {

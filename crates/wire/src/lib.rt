@@ -6,6 +6,7 @@ ghost use Rattle.std.specs.Result.{is_ok};
 ghost use Rattle.wire.specs.Moves.{fits, after_put, moves, filled};
 
 pub mod page;
+pub mod resuming;
 pub mod ring;
 
 // The most bytes that one put takes.

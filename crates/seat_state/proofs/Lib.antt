@@ -1,0 +1,3 @@
+pub mod Declining
+pub mod Leaving
+pub mod Tells

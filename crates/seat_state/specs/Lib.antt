@@ -1,0 +1,6 @@
+pub mod Answers
+pub mod Calls
+pub mod Keeping
+pub mod Known
+pub mod Opening
+pub mod Telling

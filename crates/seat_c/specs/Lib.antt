@@ -1,0 +1,4 @@
+pub mod Encoding
+pub mod Keys
+pub mod Reports
+pub mod Requests

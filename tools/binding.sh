@@ -1,0 +1,31 @@
+#!/bin/sh
+# Builds the static library, links it from C, tests the binding in Rust over it, and runs its example on the recorded
+# passes: the bytes must be those that the console tells of the same passes. Offline.
+set -eu
+cd "$(dirname "$0")/.."
+
+(cd crates/seat_c && rt lib) > /dev/null
+checked=$(mktemp)
+trap 'rm -f "$checked"' EXIT
+cc -std=c99 -Wall -Wextra -Werror -o "$checked" bindings/c/check.c crates/seat_c/out/libseat_c.a
+"$checked" > /dev/null
+cd bindings/rust
+cargo test --offline --quiet > /dev/null
+cargo build --offline --quiet --release --example pass
+
+# The drained bytes of what the console printed, in hex: two digits a byte, before two spaces.
+drained() {
+    sed -n 's/^[0-9]* drain [0-9]*: \(\([0-9a-f][0-9a-f] \)*[0-9a-f][0-9a-f]\)  .*/\1/p' "$1" | tr -d ' \n'
+}
+
+bytes=0
+for pass in pass requests; do
+    told=$(target/release/examples/pass < "../../examples/$pass.txt" 2> /dev/null | od -An -v -tx1 | tr -d ' \n')
+    wanted=$(drained "../../examples/$pass.out")
+    if [ -z "$wanted" ] || [ "$told" != "$wanted" ]; then
+        echo "binding: the bytes of $pass.txt differ" >&2
+        exit 1
+    fi
+    bytes=$((bytes + ${#told} / 2))
+done
+echo "binding: tests passed, and $bytes bytes of recorded passes are those of the console"

@@ -1,14 +1,10 @@
 #!/bin/sh
-# Builds the static library, links it from C, tests the binding in Rust over it, and runs its example on the recorded
-# passes: the bytes must be those that the console tells of the same passes. Offline.
+# Builds the static library, tests the binding in Rust over it, and runs its example on the recorded passes: the bytes
+# must be those that the console tells of the same passes. Offline.
 set -eu
 cd "$(dirname "$0")/.."
 
 (cd crates/seat_c && rt lib) > /dev/null
-checked=$(mktemp)
-trap 'rm -f "$checked"' EXIT
-cc -std=c99 -Wall -Wextra -Werror -o "$checked" bindings/c/check.c crates/seat_c/out/libseat_c.a
-"$checked" > /dev/null
 cd bindings/rust
 cargo test --offline --quiet > /dev/null
 cargo build --offline --quiet --release --example pass

@@ -5,14 +5,14 @@ usage: planted_bugs.py [--list] [--only CRATE].. [--jobs N]
 
 The bugs stand in planted_bugs.txt. Each is tried on a copy of the repository, first as a must-fail edit: the prover must
 refuse its crate. Where that is still proved, the crate that a line `then:` names is proved over the bug, and else the tests
-and the programs that stand on the crate are run over it, with no proof, against what they are recorded to print.
+and the programs that stand on the crate are run over it, with no proof, against what they are recorded to print. A bug of a
+program goes to these runs first, and to the prover where they show nothing.
 --list prints the bugs; --only takes the bugs of one crate; --jobs is how many crates are tried side by side, 1 or 2.
 It ends with 1 where a bug cannot be tried.
 """
 import argparse
 import collections
 import concurrent.futures
-import contextlib
 import os
 import pathlib
 import re
@@ -59,6 +59,9 @@ class Bug:
                 return None
             text = text.replace(old, new)
         return text if text != was else None
+
+    def is_of_program(self):
+        return (ROOT / "crates" / self.crate / "src" / "main.rt").exists()
 
     def as_edit(self):
         return f"file: {self.file}\n" + "".join(f"old: {old}\nnew: {new}\n" for old, new in self.pairs)
@@ -118,18 +121,6 @@ def run(words, folder, stdin=None):
     return subprocess.run(["nice", *words], cwd=folder, stdout=subprocess.PIPE, stderr=subprocess.PIPE, env=env, **how)
 
 
-@contextlib.contextmanager
-def planted(copy, bug):
-    """Has the bug in the copy for a while."""
-    source = bug.source(copy)
-    was = source.read_text(encoding="utf-8")
-    source.write_text(bug.planted(was), encoding="utf-8")
-    try:
-        yield
-    finally:
-        source.write_text(was, encoding="utf-8")
-
-
 def check(copy, crate):
     """Proves a crate of the copy as it stands, and returns the answer, with the prover's first words where it refuses."""
     ran = run(["rt", "check", "--jobs", "1"], copy / "crates" / crate)
@@ -145,12 +136,6 @@ def check(copy, crate):
 def proofs_of(copy, crate, bugs):
     """Proves a crate over each of its bugs, and returns for each the answer, with the prover's first words."""
     answers = {}
-    if (copy / "crates" / crate / "src" / "main.rt").exists():
-        # (a program's proof is long, and must-fail edits that it lets through are tried twice)
-        for bug in bugs:
-            with planted(copy, bug):
-                answers[bug] = check(copy, crate)
-        return answers
     folder = copy / "crates" / crate / "must-fail"
     shutil.rmtree(folder, ignore_errors=True)
     folder.mkdir()
@@ -204,12 +189,34 @@ def tests_of(copy, bug, below):
     return NOTHING, ""
 
 
-def tested(copy, bug, below):
-    with planted(copy, bug):
-        answer, by = check(copy, bug.then) if bug.then else (NOTHING, "")
-        if answer == PROVER:
-            return ABOVE, f"in {bug.then}, {by}"
-        return tests_of(copy, bug, below) if answer == NOTHING else (answer, by)
+def tested(room, bug, below):
+    """Tries a bug beyond its crate's own proof, on a copy of its own."""
+    copy = copied(room / f"{bug.crate}-{bug.name}")
+    source = bug.source(copy)
+    source.write_text(bug.planted(source.read_text(encoding="utf-8")), encoding="utf-8")
+    answer, by = check(copy, bug.then) if bug.then else (NOTHING, "")
+    if answer == PROVER:
+        answer, by = ABOVE, f"in {bug.then}, {by}"
+    if answer == NOTHING:
+        answer, by = tests_of(copy, bug, below)
+    if answer == NOTHING and bug.is_of_program():
+        answer, by = check(copy, bug.crate)
+    shutil.rmtree(copy, ignore_errors=True)
+    return answer, by
+
+
+def tried(room, copy, crate, bugs, below):
+    """Tries the bugs of a crate. Those of programs are tested first: what a program prints has no contract, and its proof is long."""
+    answers = {bug: (NOTHING, "") for bug in bugs} if bugs[0].is_of_program() else proofs_of(copy, crate, bugs)
+    for bug in bugs:
+        if answers[bug][0] == NOTHING:
+            answers[bug] = tested(room, bug, below)
+        show(bug, *answers[bug])
+    return answers
+
+
+def copied(folder):
+    return shutil.copytree(ROOT, folder, symlinks=True, ignore=shutil.ignore_patterns(".git", "__pycache__", "rt-work-*"))
 
 
 def show(bug, answer, by):
@@ -247,22 +254,14 @@ def main():
             print(f"{bug.crate}/{bug.name} ({bug.kind}, {bug.file} {bug.function()})")
         return 0
     below, answers = uses(), {}
-    with tempfile.TemporaryDirectory(prefix="planted-bugs-") as room:
-        copy = pathlib.Path(room) / "copy"
-        shutil.copytree(ROOT, copy, symlinks=True, ignore=shutil.ignore_patterns(".git", "__pycache__"))
-        crates = list(dict.fromkeys(bug.crate for bug in bugs))
-        # (a crate above another first builds it, so they go in the order of crates.txt)
-        crates.sort(key=list(below).index)
-        with concurrent.futures.ThreadPoolExecutor(asked.jobs) as pool:
-            tries = {crate: pool.submit(proofs_of, copy, crate, [bug for bug in bugs if bug.crate == crate]) for crate in crates}
-            for crate in crates:
-                for bug, answer in tries[crate].result().items():
-                    answers[bug] = answer
-                    if answer[0] != NOTHING:
-                        show(bug, *answer)
-        for bug in [bug for bug in bugs if answers[bug][0] == NOTHING]:
-            answers[bug] = tested(copy, bug, below)
-            show(bug, *answers[bug])
+    # (a crate above another first builds it, so they go in the order of crates.txt)
+    crates = [crate for crate in below if any(bug.crate == crate for bug in bugs)]
+    with tempfile.TemporaryDirectory(prefix="planted-bugs-") as name, concurrent.futures.ThreadPoolExecutor(asked.jobs) as pool:
+        room = pathlib.Path(name)
+        copy = copied(room / "copy")
+        tries = [pool.submit(tried, room, copy, crate, [bug for bug in bugs if bug.crate == crate], below) for crate in crates]
+        for it in tries:
+            answers.update(it.result())
     return 1 if totals(answers) else 0
 
 

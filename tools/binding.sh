@@ -4,10 +4,24 @@
 set -eu
 cd "$(dirname "$0")/.."
 
-(cd crates/seat_c && rt lib) > /dev/null
+folder=$(mktemp -d)
+trap 'rm -rf "$folder"' EXIT
+
+# Runs a step, and shows what it said only where it failed.
+step() {
+    if ! "$@" > "$folder/log" 2>&1; then
+        tail -n 40 "$folder/log" >&2
+        echo "binding: failed at $*" >&2
+        exit 1
+    fi
+}
+
+cd crates/seat_c
+step rt lib
+cd ../..
 cd bindings/rust
-cargo test --offline --quiet > /dev/null
-cargo build --offline --quiet --release --example pass
+step cargo test --offline --quiet
+step cargo build --offline --quiet --release --example pass
 
 # The drained bytes of what the console printed, in hex: two digits a byte, before two spaces.
 drained() {

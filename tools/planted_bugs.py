@@ -5,8 +5,7 @@ usage: planted_bugs.py [--list] [--only CRATE].. [--jobs N]
 
 The bugs stand in planted_bugs.txt. Each is tried on a copy of the repository, first as a must-fail edit: the prover must
 refuse its crate. Where that is still proved, the crate that a line `then:` names is proved over the bug, and else the tests
-and the programs that stand on the crate are run over it, with no proof, against what they are recorded to print. A bug of a
-program goes to these runs first, and to the prover where they show nothing.
+and the programs that stand on the crate are run over it, with no proof, against what they are recorded to print.
 --list prints the bugs; --only takes the bugs of one crate; --jobs is how many crates are tried side by side, 1 or 2.
 It ends with 1 where a bug cannot be tried.
 """
@@ -59,9 +58,6 @@ class Bug:
                 return None
             text = text.replace(old, new)
         return text if text != was else None
-
-    def is_of_program(self):
-        return (ROOT / "crates" / self.crate / "src" / "main.rt").exists()
 
     def as_edit(self):
         return f"file: {self.file}\n" + "".join(f"old: {old}\nnew: {new}\n" for old, new in self.pairs)
@@ -201,15 +197,13 @@ def tested(room, bug, below):
         answer, by = ABOVE, f"in {bug.then}, {by}"
     if answer == NOTHING:
         answer, by = tests_of(copy, bug, below)
-    if answer == NOTHING and bug.is_of_program():
-        answer, by = check(copy, bug.crate)
     shutil.rmtree(copy, ignore_errors=True)
     return answer, by
 
 
 def tried(room, copy, crate, bugs, below):
-    """Tries the bugs of a crate. Those of programs are tested first: what a program prints has no contract, and its proof is long."""
-    answers = {bug: (NOTHING, "") for bug in bugs} if bugs[0].is_of_program() else proofs_of(copy, crate, bugs)
+    """Tries the bugs of a crate."""
+    answers = proofs_of(copy, crate, bugs)
     for bug in bugs:
         if answers[bug][0] == NOTHING:
             answers[bug] = tested(room, bug, below)

@@ -35,7 +35,8 @@ impl<'a> Key<'a> {
         KeyNumbers { kind, value }
     }
 
-    pub(crate) fn text(self) -> &'a [u8] {
+    /// The text that crosses beside the numbers, which only a composed key has.
+    pub fn text(self) -> &'a [u8] {
         match self {
             Key::Composed(text) => text,
             _ => &[],
@@ -119,7 +120,8 @@ impl<'a> Event<'a> {
         }
     }
 
-    pub(crate) fn numbers(&self) -> EventNumbers {
+    /// The numbers that it crosses as. The texts of its key and of its raw key cross beside them.
+    pub fn numbers(&self) -> EventNumbers {
         EventNumbers {
             key: self.key.numbers(),
             modifiers: u32::from(self.modifiers.0),
@@ -138,7 +140,8 @@ impl<'a> Event<'a> {
         }
     }
 
-    pub(crate) fn raw_text(&self) -> &'a [u8] {
+    /// The text of its raw key.
+    pub fn raw_text(&self) -> &'a [u8] {
         match self.raw {
             Some(raw) => raw.key.text(),
             None => &[],

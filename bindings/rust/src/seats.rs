@@ -6,6 +6,60 @@
 use crate::raw::{self, Kept, PageState, RingState};
 use crate::{Dialect, Error, Event, Layout};
 
+/// The seven calls of a seat: what each export takes first, and the exports.
+macro_rules! calls {
+    ($seat:ident: $($state:expr),+;
+     $key:ident, $push:ident, $pop:ident, $set:ident, $screen:ident, $query:ident, $drain:ident) => {
+        /// Tells of a key under the setting in force, and answers how many bytes that put on the wire.
+        pub fn key(&mut $seat, event: &Event) -> Result<usize, Error> {
+            let numbers = event.numbers();
+            let text = event.key.text();
+            let raw_text = event.raw_text();
+            unsafe {
+                raw::$key(
+                    $($state,)+
+                    &numbers,
+                    text.as_ptr(),
+                    text.len(),
+                    raw_text.as_ptr(),
+                    raw_text.len(),
+                )
+            }
+            .counted()
+        }
+
+        /// One setting more on the shown screen.
+        pub fn push(&mut $seat, flags: u32) -> Result<(), Error> {
+            unsafe { raw::$push($($state,)+ flags) }.counted().map(drop)
+        }
+
+        /// So many settings less on the shown screen.
+        pub fn pop(&mut $seat, count: usize) -> Result<(), Error> {
+            unsafe { raw::$pop($($state,)+ count) }.counted().map(drop)
+        }
+
+        /// Changes the setting in force.
+        pub fn set(&mut $seat, flags: u32, mode: u32) -> Result<(), Error> {
+            unsafe { raw::$set($($state,)+ flags, mode) }.counted().map(drop)
+        }
+
+        /// Shows the main screen, 0, or the alternate one, 1.
+        pub fn screen(&mut $seat, screen: usize) -> Result<(), Error> {
+            unsafe { raw::$screen($($state,)+ screen) }.counted().map(drop)
+        }
+
+        /// Answers the setting in force.
+        pub fn query(&mut $seat) -> Result<usize, Error> {
+            unsafe { raw::$query($($state),+) }.counted()
+        }
+
+        /// Hands over the oldest bytes, to the front of the buffer, whose rest stays, and answers how many.
+        pub fn drain(&mut $seat, buffer: &mut [u8]) -> Result<usize, Error> {
+            unsafe { raw::$drain($($state,)+ buffer.as_mut_ptr(), buffer.len()) }.counted()
+        }
+    };
+}
+
 /// A seat over a ring of 4096 bytes of its own.
 #[derive(Clone, Debug)]
 pub struct Seat {
@@ -42,57 +96,8 @@ impl Seat {
         self.state.count as usize
     }
 
-    /// Tells of a key under the setting in force, and answers how many bytes that put on the wire.
-    pub fn key(&mut self, event: &Event) -> Result<usize, Error> {
-        let numbers = event.numbers();
-        let text = event.key.text();
-        let raw_text = event.raw_text();
-        unsafe {
-            raw::seat_ring_key(
-                &mut *self.state,
-                &numbers,
-                text.as_ptr(),
-                text.len(),
-                raw_text.as_ptr(),
-                raw_text.len(),
-            )
-        }
-        .counted()
-    }
-
-    pub fn push(&mut self, flags: u32) -> Result<(), Error> {
-        unsafe { raw::seat_ring_push(&mut *self.state, flags) }
-            .counted()
-            .map(drop)
-    }
-
-    pub fn pop(&mut self, count: usize) -> Result<(), Error> {
-        unsafe { raw::seat_ring_pop(&mut *self.state, count) }
-            .counted()
-            .map(drop)
-    }
-
-    pub fn set(&mut self, flags: u32, mode: u32) -> Result<(), Error> {
-        unsafe { raw::seat_ring_set(&mut *self.state, flags, mode) }
-            .counted()
-            .map(drop)
-    }
-
-    pub fn screen(&mut self, screen: usize) -> Result<(), Error> {
-        unsafe { raw::seat_ring_screen(&mut *self.state, screen) }
-            .counted()
-            .map(drop)
-    }
-
-    pub fn query(&mut self) -> Result<usize, Error> {
-        unsafe { raw::seat_ring_query(&mut *self.state) }.counted()
-    }
-
-    /// Hands over the oldest bytes, to the front of the buffer, whose rest stays, and answers how many.
-    pub fn drain(&mut self, buffer: &mut [u8]) -> Result<usize, Error> {
-        unsafe { raw::seat_ring_drain(&mut *self.state, buffer.as_mut_ptr(), buffer.len()) }
-            .counted()
-    }
+    calls!(self: &mut *self.state;
+        seat_ring_key, seat_ring_push, seat_ring_pop, seat_ring_set, seat_ring_screen, seat_ring_query, seat_ring_drain);
 }
 
 /// A seat over a page that the caller lends for as long as the seat is there.
@@ -137,96 +142,8 @@ impl<'a> PageSeat<'a> {
         self.state.count
     }
 
-    pub fn key(&mut self, event: &Event) -> Result<usize, Error> {
-        let numbers = event.numbers();
-        let text = event.key.text();
-        let raw_text = event.raw_text();
-        unsafe {
-            raw::seat_page_key(
-                &mut self.state,
-                self.page.as_mut_ptr(),
-                self.page.len(),
-                &numbers,
-                text.as_ptr(),
-                text.len(),
-                raw_text.as_ptr(),
-                raw_text.len(),
-            )
-        }
-        .counted()
-    }
-
-    pub fn push(&mut self, flags: u32) -> Result<(), Error> {
-        unsafe {
-            raw::seat_page_push(
-                &mut self.state,
-                self.page.as_mut_ptr(),
-                self.page.len(),
-                flags,
-            )
-        }
-        .counted()
-        .map(drop)
-    }
-
-    pub fn pop(&mut self, count: usize) -> Result<(), Error> {
-        unsafe {
-            raw::seat_page_pop(
-                &mut self.state,
-                self.page.as_mut_ptr(),
-                self.page.len(),
-                count,
-            )
-        }
-        .counted()
-        .map(drop)
-    }
-
-    pub fn set(&mut self, flags: u32, mode: u32) -> Result<(), Error> {
-        unsafe {
-            raw::seat_page_set(
-                &mut self.state,
-                self.page.as_mut_ptr(),
-                self.page.len(),
-                flags,
-                mode,
-            )
-        }
-        .counted()
-        .map(drop)
-    }
-
-    pub fn screen(&mut self, screen: usize) -> Result<(), Error> {
-        unsafe {
-            raw::seat_page_screen(
-                &mut self.state,
-                self.page.as_mut_ptr(),
-                self.page.len(),
-                screen,
-            )
-        }
-        .counted()
-        .map(drop)
-    }
-
-    pub fn query(&mut self) -> Result<usize, Error> {
-        unsafe { raw::seat_page_query(&mut self.state, self.page.as_mut_ptr(), self.page.len()) }
-            .counted()
-    }
-
-    /// Hands over the oldest bytes; the remainder moves to the page's front, and the bytes behind it stay.
-    pub fn drain(&mut self, buffer: &mut [u8]) -> Result<usize, Error> {
-        unsafe {
-            raw::seat_page_drain(
-                &mut self.state,
-                self.page.as_mut_ptr(),
-                self.page.len(),
-                buffer.as_mut_ptr(),
-                buffer.len(),
-            )
-        }
-        .counted()
-    }
+    calls!(self: &mut self.state, self.page.as_mut_ptr(), self.page.len();
+        seat_page_key, seat_page_push, seat_page_pop, seat_page_set, seat_page_screen, seat_page_query, seat_page_drain);
 }
 
 /// Writes what one event sends under a setting to the front of `out`, whose rest stays, and answers how many bytes.

@@ -1,4 +1,6 @@
 // The key event that the words of a line stand for.
+ghost use Rattle.std.specs.Prelude.{◌≡◌, ◌≢◌, false, codes};
+
 use crate::words::Word;
 use crate::wrong::{Why, Wrong, wrong_name};
 use input_types::event::{KeyEvent, RawKeyEvent};
@@ -101,7 +103,9 @@ impl<'a> Told<'a> {
     }
 
     // Modifiers of the raw event, once it is begun, else of the event.
-    fn hold(&mut self, modifiers: Modifiers) {
+    fn hold(&mut self, modifiers: Modifiers)
+        ensures { self.new.down ≡ self.old.down }
+    {
         match self.raw {
             Some(raw) => {
                 self.raw = Some(Pressed {
@@ -114,7 +118,10 @@ impl<'a> Told<'a> {
     }
 
     // One word more, and what the next one is taken for.
-    fn word(&mut self, word: Word<'a>) -> Result<Place, Wrong> {
+    fn word(&mut self, word: Word<'a>) -> Result<Place, Wrong>
+        ensures release { word.entry.text.now ≡ codes "release" → self.new.down ≡ false }
+        ensures other { word.entry.text.now ≢ codes "release" → self.new.down ≡ self.old.down }
+    {
         match word.text {
             "on" => return Ok(Place::OnPlace),
             "raw" => return Ok(Place::RawKey),

@@ -1,3 +1,4 @@
+pub mod Decimals
 pub mod StreamLaws
 pub mod Typing
 pub mod Writing

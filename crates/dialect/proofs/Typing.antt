@@ -1,8 +1,6 @@
 -- The typed text, one character more at a time.
-use Rattle.std.proofs.Common.{◌≡◌, ℕ, zero, suc, ◌+◌, ◌<◌, List, [], ◌∷◌, ◌++◌, length, get_or, take, decimal, sym, refl, ap, ◌∙◌, arith}
-use Rattle.std.proofs.lemmas.List.{append-nil, append_assoc, take_more, length-take-le}
-use Rattle.report.specs.declared.text.Text.{Text}
-use Rattle.report.specs.Meanings.{characters}
+use Rattle.std.proofs.Common.{◌≡◌, ℕ, zero, suc, ◌+◌, ◌<◌, List, [], ◌∷◌, ◌++◌, length, get_or, take, drop, decimal, length-drop, sym, refl, ap, ◌∙◌, arith}
+use Rattle.std.proofs.lemmas.List.{append-nil, append_assoc, take_more, drop_more}
 use Rattle.dialect.specs.KittyBytes.{further, typed}
 
 further_push : (xs : List ℕ) (c : ℕ) → further (xs ++ (c ∷ [])) ≡ further xs ++ (58 ∷ decimal c)
@@ -27,5 +25,13 @@ mark_next cs zero h l = absurd (omega arith)
 mark_next [] (suc i) h l = absurd (omega arith)
 mark_next (c ∷ cs) (suc i) h l = refl
 
-pub length-characters : (t : Text) → length (characters t) ≡ t.count
-length-characters t = length-take-le t.count t.codes (omega (arith, t.few, t.whole))
+-- the next character of a text, where it goes on with one
+module _ (cs : List ℕ) (i c : ℕ) (rest : List ℕ) (h : drop i cs ≡ c ∷ rest) where
+  pub inside : i < length cs
+  inside = let n = length-drop i cs in let m : length (drop i cs) ≡ suc (length rest) = rw h refl in omega (arith, n, m)
+
+  pub next_is : get_or cs i 0 ≡ c
+  next_is = let e = drop_more cs i 0 inside in ap (λ xs. get_or xs 0 0) (sym e ∙ h)
+
+  pub behind_is : drop (i + 1) cs ≡ rest
+  behind_is = let e = drop_more cs i 0 inside in ap (λ xs. drop 1 xs) (sym e ∙ h)

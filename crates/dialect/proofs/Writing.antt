@@ -7,10 +7,6 @@ use lib.Seq.{paste}
 use Rattle.dialect.specs.declared.pen.Pen.{Pen}
 use Rattle.dialect.specs.Puts.{puts, Wrote, Put, Writes}
 
-pub length-puts : (out : List ℕ) (at : ℕ) (bs : List ℕ) → length (puts out at bs) ≡ length out
-length-puts out at [] = refl
-length-puts out at (b ∷ bs) = length-puts (set out at b) (at + 1) bs ∙ length-set out at b
-
 pub puts_append : (out : List ℕ) (at : ℕ) (xs ys : List ℕ) → puts out at (xs ++ ys) ≡ puts (puts out at xs) (at + length xs) ys
 puts_append out at [] ys = ap (λ i. puts out i ys) (sym (add-zero at))
 puts_append out at (x ∷ xs) ys =
@@ -32,9 +28,6 @@ put_mid_puts out at k bs e h =
     let whole : paste out at bs (length bs) ≡ take at out ++ (bs ++ drop (at + length bs) out) = rw (take_all (length bs) bs (omega arith)) (append_assoc (take at out) bs (drop (at + length bs) out)) in
     put_mid-paste at k out bs bs (length bs) refl (sym e) refl ∙ whole ∙ sym (puts_split out at bs h)
 
-pub wrote_nothing : (out : List ℕ) (at : ℕ) → Wrote out at [] out at
-wrote_nothing out at = record { place = sym (add-zero at); row = refl }
-
 pub wrote_more : {a b c : List ℕ} {i j k : ℕ} {xs ys : List ℕ} → Wrote a i xs b j → Wrote b j ys c k → Wrote a i (xs ++ ys) c k
 wrote_more {a} {b} {c} {i} {j} {k} {xs} {ys} p q = record {
   place = simp length-append (omega (arith, p.place, q.place));
@@ -49,9 +42,6 @@ wrote_front a b n bs h w =
 
 pub wrote_as : {a b : List ℕ} {i j : ℕ} {xs ys : List ℕ} → xs ≡ ys → Wrote a i xs b j → Wrote a i ys b j
 wrote_as {a} {b} {i} {j} e w = subst (λ zs. Wrote a i zs b j) e w
-
-pub writes_nothing : (p : Pen) → Writes p [] p
-writes_nothing p = record { wrote = wrote_nothing p.out.now p.at; same_row = refl }
 
 pub writes_more : {p q r : Pen} {xs ys : List ℕ} → Writes p xs q → Writes q ys r → Writes p (xs ++ ys) r
 writes_more v w = record { wrote = wrote_more v.wrote w.wrote; same_row = w.same_row ∙ v.same_row }

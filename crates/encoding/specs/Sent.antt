@@ -4,7 +4,7 @@ use Rattle.report.specs.Meanings.{Meaning}
 use Rattle.events.specs.declared.fault.Fault.{Fault}
 use Rattle.events.specs.Events.{PlainEvent}
 use Rattle.events.specs.Faults.{event_fault, faultless}
-use Rattle.rules.specs.Rules.{tells}
+use Rattle.rules.specs.Rules.{tells, told_text}
 
 -- the bytes of what is told, if anything is
 abbrev pub bytes_told : (Meaning → List ℕ) → Option Meaning → List ℕ
@@ -24,4 +24,9 @@ pub record Sends (base : ℕ → ℕ) (bytes : Meaning → List ℕ) (flags : �
 -- the event's first fault is f, and the row is as it was
 pub record Refuses (e : PlainEvent) (f : Fault) (before after : List ℕ) : Type 0 where
   pub fault : event_fault e ≡ Some f
+  pub same : after ≡ before
+
+-- the event has a fault, or the rule of plain text tells nothing of it, and the row is as it was
+pub record NoText (flags : ℕ) (e : PlainEvent) (before after : List ℕ) : Type 0 where
+  pub other : faultless e ≡ true → told_text flags e ≡ None
   pub same : after ≡ before

@@ -43,6 +43,7 @@ pub struct EventNumbers {
 }
 
 // A match, here and below: no `map` passes the variant of a type that names a lifetime.
+#[inline(always)]
 fn character(code: u32) -> Option<KeyCode<'static>>
     ensures { result ≡ character code }
 {
@@ -52,6 +53,7 @@ fn character(code: u32) -> Option<KeyCode<'static>>
     }
 }
 
+#[inline(always)]
 fn physical(number: u32) -> Option<KeyCode<'static>>
     ensures { result ≡ option_map Physically (beside places number) }
 {
@@ -62,6 +64,7 @@ fn physical(number: u32) -> Option<KeyCode<'static>>
 }
 
 // The key of these numbers and this text, which only a composed key holds.
+#[inline(always)]
 pub fn key_by<'a>(key: KeyNumbers, text: &'a [u8]) -> Option<KeyCode<'a>>
     ensures { result ≡ key_by key.kind key.value text.entry }
 {
@@ -76,6 +79,7 @@ pub fn key_by<'a>(key: KeyNumbers, text: &'a [u8]) -> Option<KeyCode<'a>>
     }
 }
 
+#[inline(always)]
 fn answer_by(number: u32) -> Option<bool>
     ensures { result ≡ answer_by number }
 {
@@ -86,6 +90,7 @@ fn answer_by(number: u32) -> Option<bool>
     }
 }
 
+#[inline(always)]
 fn known_place(number: u32) -> Option<Option<PhysKeyCode>>
     ensures { result ≡ known_place number }
 {
@@ -95,6 +100,7 @@ fn known_place(number: u32) -> Option<Option<PhysKeyCode>>
     }
 }
 
+#[inline(always)]
 fn modifiers_by(bits: u32) -> Modifiers
     ensures { result ≡ modifiers_by bits }
 {
@@ -103,6 +109,7 @@ fn modifiers_by(bits: u32) -> Modifiers
     }
 }
 
+#[inline(always)]
 fn lights_by(bits: u32) -> KeyboardLedStatus
     ensures { result ≡ lights_by bits }
 {
@@ -112,6 +119,7 @@ fn lights_by(bits: u32) -> KeyboardLedStatus
 }
 
 // The raw event of these numbers, whether or not they say that there is one.
+#[inline(always)]
 fn raw_with<'a>(raw: RawNumbers, down: bool, text: &'a [u8]) -> Option<RawKeyEvent<'a>>
     ensures { result ≡ raw_with raw down (key_by raw.key.kind raw.key.value text.entry) (known_place raw.place) }
 {
@@ -128,6 +136,7 @@ fn raw_with<'a>(raw: RawNumbers, down: bool, text: &'a [u8]) -> Option<RawKeyEve
     })
 }
 
+#[inline(always)]
 fn raw_by<'a>(raw: RawNumbers, down: bool, text: &'a [u8]) -> Option<Option<RawKeyEvent<'a>>>
     ensures { result ≡ raw_by raw down text.entry }
 {
@@ -139,6 +148,7 @@ fn raw_by<'a>(raw: RawNumbers, down: bool, text: &'a [u8]) -> Option<Option<RawK
 }
 
 // The event of these numbers, with the texts of its key and of its raw key.
+#[inline(always)]
 pub fn event_by<'a>(
     event: &EventNumbers,
     text: &'a [u8],

@@ -8,6 +8,7 @@ use input_types::key_code::KeyCode;
 use input_types::phys_key_code::PhysKeyCode;
 
 // The place with this number.
+#[inline(always)]
 pub fn place_by(number: u32) -> Option<PhysKeyCode>
     ensures { result ≡ beside places number }
 {
@@ -138,6 +139,7 @@ pub fn place_by(number: u32) -> Option<PhysKeyCode>
 }
 
 // The key with this number, of those that hold nothing.
+#[inline(always)]
 pub fn plain_key(number: u32) -> Option<KeyCode<'static>>
     ensures { result ≡ beside keys number }
 {

@@ -22,6 +22,7 @@ fn check_text(bytes: &[u8]) -> Result<&str, Fault>
     }
 }
 
+#[inline(always)]
 fn is_unnamed(modifiers: Modifiers, leds: KeyboardLedStatus) -> bool
     ensures { result ≡ unnamed modifiers.bits leds.bits }
 {
@@ -30,6 +31,7 @@ fn is_unnamed(modifiers: Modifiers, leds: KeyboardLedStatus) -> bool
 
 // The text of a key, which is empty unless the key is composed, or the first fault. Modifiers and lights come apart, as
 // the Rust's two events hold them.
+#[inline(always)]
 fn check_part<'a>(
     kind: Kind<'a>,
     modifiers: Modifiers,
@@ -49,12 +51,13 @@ fn check_part<'a>(
 }
 
 // The event with its text checked, or the first fault, with its place.
+#[inline(always)]
 pub fn check<'a>(event: &'a KeyEvent<'a>) -> Result<Checked<'a>, Fault>
     ensures { MatchResult result (λ c. c.event.now ≡ event.now) (λ f. event_fault (plain_event event.now) ≡ Just f) }
 {
-    let text = check_part(event.key.into(), event.modifiers, event.leds)?;
+    let text = check_part(Kind::from(event.key), event.modifiers, event.leds)?;
     if let Some(raw) = &event.raw {
-        check_part(raw.key.into(), raw.modifiers, raw.leds)?;
+        check_part(Kind::from(raw.key), raw.modifiers, raw.leds)?;
     }
     Ok(Checked { event, text })
 }

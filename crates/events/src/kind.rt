@@ -21,6 +21,7 @@ pub enum Kind<'a> {
 impl<'a> From<KeyCode<'a>> for Kind<'a> {
     ghost from_gives = { λ k r. plain_kind r ≡ kind_of k };
 
+    #[inline(always)]
     fn from(key: KeyCode<'a>) -> Kind<'a> {
         match key {
             KeyCode::Char(c) => Kind::Char(c),

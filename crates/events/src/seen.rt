@@ -12,19 +12,22 @@ use input_types::phys_key_code::PhysKeyCode;
 use report::ending::Direction;
 
 impl<'a> Checked<'a> {
+    #[inline(always)]
     pub fn kind(self) -> Kind<'a>
         ensures { plain_kind result ≡ (event_of self.entry).key.kind }
     {
-        self.event.key.into()
+        Kind::from(self.event.key)
     }
 
     // The text of a composed key; empty for any other.
+    #[inline(always)]
     pub fn text(self) -> &'a str
         ensures { result.now ≡ bytes_of (event_of self.entry).key.kind }
     {
         self.text
     }
 
+    #[inline(always)]
     pub fn is_down(self) -> bool
         ensures { result ≡ (event_of self.entry).down }
     {
@@ -32,12 +35,14 @@ impl<'a> Checked<'a> {
     }
 
     // The event's own modifiers.
+    #[inline(always)]
     pub fn modifiers(self) -> Modifiers
         ensures { result.bits ≡ (event_of self.entry).modifiers }
     {
         self.event.modifiers
     }
 
+    #[inline(always)]
     pub fn leds(self) -> KeyboardLedStatus
         ensures { result.bits ≡ (event_of self.entry).leds }
     {
@@ -45,22 +50,25 @@ impl<'a> Checked<'a> {
     }
 
     // The raw event's modifiers, or the event's own if there is no raw event.
+    #[inline(always)]
     pub fn reported_modifiers(self) -> Modifiers
         ensures { result.bits ≡ reported (event_of self.entry) }
     {
-        self.event
-            .raw
-            .as_ref()
-            .map_or(self.modifiers(), |raw| raw.modifiers)
+        match &self.event.raw {
+            Some(raw) => raw.modifiers,
+            None => self.modifiers(),
+        }
     }
 
     // The reported modifiers and the event's lights as one number.
+    #[inline(always)]
     pub fn modifier_sum(self) -> u8
         ensures { result ≡ sum (event_of self.entry) }
     {
         self.reported_modifiers().kitty_sum(self.leds())
     }
 
+    #[inline(always)]
     pub fn told_direction(self) -> Direction
         ensures { result ≡ direction (event_of self.entry) }
     {
@@ -72,6 +80,7 @@ impl<'a> Checked<'a> {
     }
 
     // The physical key that the raw event names.
+    #[inline(always)]
     pub fn raw_phys(self) -> Option<PhysKeyCode>
         ensures { result ≡ phys_raw (event_of self.entry).raw }
     {
@@ -80,6 +89,7 @@ impl<'a> Checked<'a> {
 
     // The physical key that the raw event names, or else the place of the event's key. A match: the closure of
     // `or_else` would have to say again what `to_phys` promises.
+    #[inline(always)]
     pub fn guessed_phys(self) -> Option<PhysKeyCode>
         ensures { result ≡ guess (event_of self.entry) }
     {
@@ -90,6 +100,7 @@ impl<'a> Checked<'a> {
     }
 
     // The number of the raw event's key among the functional keys, a plain `u32` with its bound in a clause.
+    #[inline(always)]
     pub fn raw_code(self) -> Option<u32>
         ensures value { result ≡ code_raw (event_of self.entry).raw }
         ensures bound { IfSome result (λ n. n ≤ 57654) }

@@ -1,16 +1,16 @@
 // Frames, as a dialect.
-ghost use Rattle.std.specs.Prelude.{◌≡◌, ◌+◌, ◌*◌, ◌≤◌, ◌++◌};
+ghost use Rattle.std.specs.Prelude.{◌≡◌, ◌+◌, ◌*◌, ◌≤◌, ◌++◌, length};
 ghost use Rattle.std.specs.List.{flat_map};
-ghost use Rattle.report.specs.Meanings.{characters, fields, means};
+ghost use Rattle.report.specs.Letters.{spelled};
+ghost use Rattle.report.specs.Telling.{told_fields, told_means};
 ghost use Rattle.dialect.specs.Puts.{Writes};
 ghost use Rattle.frames.specs.Framing.{le16, le32, or_none, field_bytes, frame_bytes, kind_number};
 ghost use Rattle.frames.specs.FrameLaws.{frame_sized, frame_apart};
 
 use dialect::dialect::Dialect;
 use dialect::pen::Pen;
-use report::report::Report;
-use report::sequence::Sequence;
-use report::text::Text;
+use report::letters::Letters;
+use report::told::{Told, ToldSequence};
 
 #[derive(Clone, Copy, Debug, PartialEq, Eq)]
 pub struct Frames;
@@ -47,52 +47,52 @@ fn put_head(pen: &mut Pen, length: u16, kind: FrameKind)
     pen.bytes(&(kind as u16).to_le_bytes());
 }
 
-fn put_codes(pen: &mut Pen, text: &Text)
-    requires { pen.old.at + 4 * text.now.count ≤ 512 }
-    ensures { Writes pen.old (flat_map le32 (characters text.now)) pen.new }
+fn put_codes(pen: &mut Pen, letters: Letters)
+    requires { pen.old.at + 4 * length (spelled letters.spelling) ≤ 512 }
+    ensures { Writes pen.old (flat_map le32 (spelled letters.entry.spelling)) pen.new }
 {
-    let codes = text.as_slice();
-    for c in codes {
-        put_le32(pen, *c as u32);
+    let mut rest = letters;
+    for _ in 0..32usize {
+        let Some((c, behind)) = rest.split_first() else {
+            return;
+        };
+        put_le32(pen, c as u32);
+        rest = behind;
     }
 }
 
 // What follows the kind.
-fn put_fields(pen: &mut Pen, s: &Sequence)
+fn put_fields(pen: &mut Pen, s: &ToldSequence)
     requires { pen.old.at ≤ 4 }
-    ensures { Writes pen.old (field_bytes (fields s.now)) pen.new }
+    ensures { Writes pen.old (field_bytes (told_fields s.now)) pen.new }
 {
-    let count = s.text.as_slice().len() as u8;
+    let count = s.letters.count();
     put_le32(pen, s.number);
     put_le32(pen, or_none(s.shifted));
     put_le32(pen, or_none(s.base));
     pen.bytes(&[s.sum, s.direction.into(), s.last.into(), count]);
-    put_codes(pen, &s.text);
+    put_codes(pen, s.letters);
 }
 
-fn put_report(pen: &mut Pen, report: &Report)
+fn put_report(pen: &mut Pen, report: &Told)
     requires { pen.old.at ≡ 0 }
-    ensures { Writes pen.old (frame_bytes (means report.now)) pen.new }
+    ensures { Writes pen.old (frame_bytes (told_means report.now)) pen.new }
 {
     match report {
-        Report::Text(c) => {
+        Told::Text(c) => {
             put_head(pen, 6, FrameKind::Text);
             put_le32(pen, c.code() as u32);
         }
-        Report::Old(c) => {
+        Told::Old(c) => {
             put_head(pen, 6, FrameKind::Old);
             put_le32(pen, c.code() as u32);
         }
-        Report::Answer(flags) => {
+        Told::Answer(flags) => {
             put_head(pen, 3, FrameKind::Answer);
             pen.bytes(&[flags.bits() as u8]);
         }
-        Report::Sequence(s) => {
-            put_head(
-                pen,
-                18 + 4 * s.text.as_slice().len() as u16,
-                FrameKind::Sequence,
-            );
+        Told::Sequence(s) => {
+            put_head(pen, 18 + 4 * s.letters.count() as u16, FrameKind::Sequence);
             put_fields(pen, s);
         }
     }
@@ -106,7 +106,7 @@ impl Dialect for Frames {
     ghost apart = { λ d. frame_apart };
 
     // These lines stand in each dialect: a function of the trait for them would be one more to write.
-    fn write(&self, report: &Report, out: &mut [u8; 512]) -> usize {
+    fn write(&self, report: &Told, out: &mut [u8; 512]) -> usize {
         let mut pen = Pen::new(out, 0);
         put_report(&mut pen, report);
         pen.count()

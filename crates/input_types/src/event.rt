@@ -92,6 +92,7 @@ fn code_by_phys(phys: PhysKeyCode) -> Option<u32>
 impl RawKeyEvent<'_> {
     // The number of the key in the protocol's table of functional keys, by the key and else by its place.
     // The two tables stand apart: they are over two types, and half of their rows differ.
+    #[inline(always)]
     pub fn kitty_function_code(&self) -> Option<u32>
         ensures value { result ≡ code_of self.now.key self.now.phys_code }
         ensures bound { IfSome result (λ n. n ≤ 57654) }

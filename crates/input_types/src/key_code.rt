@@ -90,6 +90,7 @@ pub enum KeyCode<'a> {
     KeyPadBegin,
 }
 
+#[inline(always)]
 fn phys_of_char(c: char) -> Option<PhysKeyCode>
     ensures { result ≡ beside chars c }
 {
@@ -151,6 +152,7 @@ fn phys_of_char(c: char) -> Option<PhysKeyCode>
     })
 }
 
+#[inline(always)]
 fn phys_of_digit(n: u8) -> Option<PhysKeyCode>
     ensures { result ≡ beside digits n }
 {
@@ -169,6 +171,7 @@ fn phys_of_digit(n: u8) -> Option<PhysKeyCode>
     })
 }
 
+#[inline(always)]
 fn phys_of_function(n: u8) -> Option<PhysKeyCode>
     ensures { result ≡ beside functions n }
 {
@@ -223,6 +226,7 @@ impl KeyCode<'_> {
     }
 
     // The place of the key on a US keyboard, where it has one. A letter's case is lost.
+    #[inline(always)]
     pub fn to_phys(&self) -> Option<PhysKeyCode>
         ensures { result ≡ phys_of self.now }
     {

@@ -1,7 +1,7 @@
 // The chart of the keypad: a line for each key, its name, its number with Num Lock and its number without.
 #![tactic(auto)]
 
-ghost use Rattle.std.specs.Prelude.{◌≡◌, ◌+◌, ◌≤◌, ◌++◌, length};
+ghost use Rattle.std.specs.Prelude.{◌≡◌, ◌+◌, ◌≤◌, ◌++◌, length, IsOk};
 ghost use Rattle.name_writing.specs.Written.{written};
 ghost use Rattle.keypad_chart.specs.Chart.{chart, chart_line};
 
@@ -13,7 +13,7 @@ use names::phys_names::phys_name;
 use rules::keypad::{Pad, pads};
 
 // Room for the whole chart: a seat's memory is fixed.
-const ROOM: usize = 1024;
+pub const ROOM: usize = 1024;
 
 fn push_line(text: &mut ArrayString<ROOM>, pad: &Pad)
     requires { length text.old.bytes + length (chart_line pad.now) ≤ 1024 }
@@ -41,7 +41,8 @@ fn chart_text() -> ArrayString<ROOM>
 // Writes the chart to the front of a buffer, whose rest stays, and answers how many bytes it has; where it does not
 // fit, nothing is written.
 pub fn write_chart(buffer: &mut [u8]) -> Result<usize, NameFault>
-    ensures { (result, buffer.new) ≡ written chart buffer.old }
+    ensures written { (result, buffer.new) ≡ written chart buffer.old }
+    ensures room { 1024 ≤ length buffer.old → IsOk result }
 {
     put(buffer, chart_text().as_str())
 }

@@ -1,4 +1,4 @@
-// Seats at run time, over this wire and this layout. What is wanted follows by hand from the rules.
+// Seats at run time, over this wire and this layout, a ring and a page. What is wanted follows by hand from the rules.
 use crate::french::French;
 use crate::opening::{open_french, replay_french};
 use crate::tray::Tray;
@@ -12,6 +12,8 @@ use script::Call;
 use seat::refusal::Refusal;
 use seat::seat::Seat;
 use wire::Wire;
+use wire::page::Page;
+use wire::ring::Ring;
 
 fn press(key: KeyCode<'static>, modifiers: Modifiers) -> KeyEvent<'static> {
     KeyEvent {
@@ -129,6 +131,46 @@ fn a_byte_more_than_is_free(rt: HostRuntime) {
     }
     assert!(rt; &out[56..] == b"bc\x09\x09".as_slice());
     assert_eq!(rt; key(&mut seat, &letter('a')), Ok(7));
+}
+
+// 4096 is 584 times seven, and eight.
+#[test]
+fn exact_fit_of_a_ring(rt: HostRuntime) {
+    let mut seat = Seat::open(Ring::new(), French, Kitty);
+    let mut out = [9; 4097];
+    assert_eq!(rt; push(&mut seat, 8), Ok(()));
+    for _ in 0..584 {
+        assert_eq!(rt; key(&mut seat, &letter('a')), Ok(7));
+    }
+    assert_eq!(rt; push(&mut seat, 0), Ok(()));
+    assert_eq!(rt; key(&mut seat, &letter('b')), Ok(1));
+    assert_eq!(rt; pop(&mut seat, 1), Ok(()));
+    assert_eq!(rt; key(&mut seat, &letter('a')), Ok(7));
+    assert!(rt; refusal(key(&mut seat, &letter('a'))) == FULL);
+    assert_eq!(rt; drain(&mut seat, &mut out), 4096);
+    for i in 0..584 {
+        assert!(rt; &out[7 * i..7 * i + 7] == b"\x1b[97;1u".as_slice());
+    }
+    assert!(rt; &out[4088..] == b"b\x1b[97;1u\x09".as_slice());
+}
+
+// A page holds the caller's whole buffer, and a take moves what is left to its front.
+#[test]
+fn exact_fit_of_a_page(rt: HostRuntime) {
+    let mut lent = [0; 15];
+    let mut seat = Seat::open(Page::new(&mut lent), French, Kitty);
+    let mut out = [9; 8];
+    assert_eq!(rt; key(&mut seat, &letter('b')), Ok(1));
+    assert_eq!(rt; push(&mut seat, 8), Ok(()));
+    assert_eq!(rt; key(&mut seat, &letter('a')), Ok(7));
+    assert_eq!(rt; key(&mut seat, &letter('c')), Ok(7));
+    assert!(rt; refusal(query(&mut seat)) == FULL);
+    assert_eq!(rt; drain(&mut seat, &mut out), 8);
+    assert!(rt; out == *b"b\x1b[97;1u");
+    assert_eq!(rt; key(&mut seat, &letter('d')), Ok(8));
+    assert!(rt; refusal(query(&mut seat)) == FULL);
+    assert_eq!(rt; drain(&mut seat, &mut out), 8);
+    assert!(rt; out == *b"\x1b[99;1u\x1b");
 }
 
 // Shift and the key of & and 1: the number is the base, 38, then the code that Shift gives, 49, and then the place of

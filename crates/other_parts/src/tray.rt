@@ -1,6 +1,6 @@
 // A wire in a small table of its own, at the end of which stands what waits: a put moves that forward, a take moves
 // nothing.
-ghost use Rattle.std.specs.Prelude.{◌≡◌, ℕ, ◌+◌, ◌-◌, ◌<◌, ◌≤◌, min, List, [], ◌++◌, length, drop};
+ghost use Rattle.std.specs.Prelude.{◌≡◌, ℕ, ◌+◌, ◌-◌, ◌<◌, ◌≤◌, min, List, [], ◌++◌, length, drop, ⊤};
 ghost use Rattle.std.specs.Result.{is_ok};
 ghost use Rattle.wire.specs.Moves.{fits, after_put, moves, filled};
 ghost use Rattle.other_parts.specs.Within.{behind_within};
@@ -40,6 +40,10 @@ impl Wire for Tray {
     ghost capacity = { λ _. 64 };
 
     ghost within = { λ t. behind_within t.start t.table t.sized };
+
+    ghost keeps = { λ _ _. ⊤ };
+
+    ghost still = { λ _. tt };
 
     fn free(&self) -> usize {
         self.start

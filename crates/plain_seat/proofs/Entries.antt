@@ -4,7 +4,7 @@ use Rattle.std.proofs.lemmas.List.{append-nil}
 use Rattle.report.specs.Meanings.{Meaning, Valid, Clear}
 use Rattle.events.specs.Events.{PlainEvent, sum, direction}
 use Rattle.rules.specs.Rules.{tells}
-use Rattle.rules.specs.Laws.{Told}
+use Rattle.rules.specs.Laws.{IfTold}
 use Rattle.rules.proofs.Clearness.{told_clear}
 use Rattle.rules.proofs.Numbers.{own_number}
 use Rattle.rules.proofs.Inverse.{fixed_reads, fixed_tells}
@@ -13,7 +13,7 @@ use Rattle.dialect.specs.Streams.{AllClear}
 use Rattle.plain_seat.specs.Plain.{Terms, Entry, Keyed, Asked, reports_of, optional}
 use Rattle.plain_seat.specs.Reading.{Sound, Marked, Numbered, TellsFixed, Apart, Laws}
 
-clear_optional : (o : Option Meaning) → Told Valid o → Told Clear o → AllClear (optional o)
+clear_optional : (o : Option Meaning) → IfTold Valid o → IfTold Clear o → AllClear (optional o)
 clear_optional None v c = tt
 clear_optional (Some m) v c = (v, c, tt)
 
@@ -27,7 +27,7 @@ module _ (t : Terms) (laws : Laws t) where
   numbered_of (Asked flags) s = tt
 
   -- the sequences of two such keys with the same bytes are one
-  same_sequence : (f : ℕ) (e : PlainEvent) (m : Meaning) (g : ℕ) (d : PlainEvent) (n : Meaning) → Told Valid (tells t.base f e) → Told Valid (tells t.base g d) → TellsFixed t.base f e m → TellsFixed t.base g d n → t.bytes m ≡ t.bytes n → (e.key.kind ≡ d.key.kind) × (direction e ≡ direction d) × (sum e ≡ sum d)
+  same_sequence : (f : ℕ) (e : PlainEvent) (m : Meaning) (g : ℕ) (d : PlainEvent) (n : Meaning) → IfTold Valid (tells t.base f e) → IfTold Valid (tells t.base g d) → TellsFixed t.base f e m → TellsFixed t.base g d n → t.bytes m ≡ t.bytes n → (e.key.kind ≡ d.key.kind) × (direction e ≡ direction d) × (sum e ≡ sum d)
   same_sequence f e m g d n v w p q same =
       let a = fixed_tells t.base f e p.key p.off m p.tells_it in
       let b = fixed_tells t.base g d q.key q.off n q.tells_it in

@@ -6,7 +6,7 @@ use Rattle.report.specs.Meanings.{Meaning, Valid, Clear}
 use Rattle.events.specs.Events.{PlainEvent, sum, direction}
 use Rattle.events.specs.Faults.{faultless}
 use Rattle.rules.specs.Rules.{tells}
-use Rattle.rules.specs.Laws.{Told, Own, CharacterKey, Fixed, OffKeypad, Lawful}
+use Rattle.rules.specs.Laws.{IfTold, Own, CharacterKey, Fixed, OffKeypad, Lawful}
 use Rattle.dialect.specs.Streams.{AllClear}
 use Rattle.settings.specs.Stack.{Stacks}
 use Rattle.plain_seat.specs.Plain.{Terms, Call, Reply, Entry, Keyed, Asked, Plain, outcome, start, after, replies, reports_of, said}
@@ -37,7 +37,7 @@ all_bytes v h = flat_map (λ t. t.bytes) h ++ v.waiting
 
 -- An accepted event has no fault, and what it tells is a report; an answer is a setting.
 abbrev pub Sound : (ℕ → ℕ) → Entry → Type 0
-Sound base (Keyed e flags) = (faultless e ≡ true) × Told Valid (tells base flags e)
+Sound base (Keyed e flags) = (faultless e ≡ true) × IfTold Valid (tells base flags e)
 Sound base (Asked flags) = flags ≤ 31
 
 -- The disambiguate flag is in force at an accepted key.
@@ -47,7 +47,7 @@ Marked (Asked flags) = Unit {0}
 
 -- The number of a character key's sequence stands for no other key, and the layout leaves it alone.
 abbrev pub Numbered : (ℕ → ℕ) → Entry → Type 0
-Numbered base (Keyed e flags) = (c : ℕ) → CharacterKey e c → Told (Own base) (tells base flags e)
+Numbered base (Keyed e flags) = (c : ℕ) → CharacterKey e c → IfTold (Own base) (tells base flags e)
 Numbered base (Asked flags) = Unit {0}
 
 -- an arrow, Home, End, Page, Insert, Delete or F1 to F24 key with no keypad key guessed, which tells m

@@ -27,6 +27,6 @@ pub fn round_trip<R: Reader>(
     ensures back { Clear (means report.now) → length (text_of (means report.now)) ≤ length text.old → Returns (means report.now) result }
 {
     let mut row = [0; 512];
-    let count = reader.write(report, &mut row);
+    let count = reader.write(&report.told(), &mut row);
     reader.read(&row[0..count], text)
 }

@@ -99,7 +99,7 @@ mod tests {
     #[test]
     fn reads_frames(rt: HostRuntime) {
         let mut out = [9u8; 512];
-        assert_eq!(rt; Frames.write(&plain_text('a'), &mut out), 8);
+        assert_eq!(rt; Frames.write(&plain_text('a').told(), &mut out), 8);
         assert!(rt; &out[0..8] == b"\x06\0\x01\0\x61\0\0\0".as_slice());
         assert_eq!(rt; out[8], 9);
         assert_eq!(rt; framed(&out), Ok(8));
@@ -150,7 +150,7 @@ mod tests {
     #[test]
     fn writes_characters(rt: HostRuntime) {
         let mut out = [9u8; 512];
-        assert_eq!(rt; Kitty.write(&plain_text('é'), &mut out), 2);
+        assert_eq!(rt; Kitty.write(&plain_text('é').told(), &mut out), 2);
         assert!(rt; &out[0..2] == b"\xc3\xa9".as_slice());
         assert_eq!(rt; out[2], 9);
     }

@@ -1,4 +1,6 @@
 // The words of an event.
+ghost use Rattle.std.specs.Prelude.{◌≡◌, ◌≢◌, cond, codes, MatchResult};
+
 use crate::refusal::{Bad, Refusal};
 use crate::words::{Words, optional, read_bits, read_bytes, read_key, read_number, read_place};
 use input_types::event::{KeyEvent, RawKeyEvent};
@@ -22,7 +24,9 @@ struct EventWords<'a> {
 }
 
 // By the words of a query: in the event, down is a bool.
-fn direction(word: &str) -> Result<bool, Bad> {
+fn direction(word: &str) -> Result<bool, Bad>
+    ensures { MatchResult result (λ down. word.now ≡ cond down (codes "d") (codes "u")) (λ _. (word.now ≢ codes "d") × (word.now ≢ codes "u")) }
+{
     match word {
         "d" => Ok(true),
         "u" => Ok(false),

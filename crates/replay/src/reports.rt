@@ -92,7 +92,7 @@ pub(crate) fn answer_write<W: Write, D: Dialect>(
 ) -> Result<(), Refusal> {
     let report = report_in(words)?;
     let mut row = [0u8; 512];
-    let count = dialect.write(&report, &mut row);
+    let count = dialect.write(&report.told(), &mut row);
     Ok(put_bytes(out, &row[0..count])?)
 }
 

@@ -1,4 +1,8 @@
 // The words of a query: keys, places, bits, characters and bytes.
+ghost use Rattle.std.specs.Prelude.{◌≡◌, ◌≢◌, ℕ, [], ◌∷◌};
+ghost use Rattle.std.specs.Result.{result_ok};
+ghost use Rattle.names.specs.Reads.{of_text, place_named};
+
 use crate::refusal::Bad;
 use hex::FromHexError;
 use input_types::key_code::KeyCode;
@@ -143,7 +147,10 @@ pub(crate) fn read_place(word: &str) -> Result<PhysKeyCode, Bad> {
 }
 
 // A place whose name can be read.
-fn by_read_name(word: &str) -> Result<PhysKeyCode, Bad> {
+fn by_read_name(word: &str) -> Result<PhysKeyCode, Bad>
+    ensures digit { (d : ℕ) → word.now ≡ 75 ∷ d ∷ [] → result_ok result ≡ result_ok (of_text place_named (d ∷ [])) }
+    ensures other { ((d : ℕ) → word.now ≢ 75 ∷ d ∷ []) → result_ok result ≡ result_ok (of_text place_named word.now) }
+{
     let name = match word.strip_prefix("K") {
         Some(digit) if digit.len() == 1 => digit,
         _ => word,

@@ -10,7 +10,7 @@ use Rattle.events.specs.Kinds.{PlainKind, character, composed, numpad, function,
 use Rattle.events.specs.Events.{PlainEvent, sum, direction}
 use Rattle.rules.specs.Strokes.{PlainStroke, bare, wordless}
 use Rattle.rules.specs.Rules.{passes, says, ◌▸◌, erased, plainly, texts, function_numbers, function_tells, functional, stroke, early, late, verdict, tells}
-use Rattle.rules.specs.Laws.{Told, Fixed, Arrow, OffKeypad}
+use Rattle.rules.specs.Laws.{IfTold, Fixed, Arrow, OffKeypad}
 use Rattle.rules.proofs.Verdicts.{Says, then, said, of_told}
 use Rattle.rules.proofs.Numbers.{early_says}
 
@@ -105,7 +105,7 @@ module _ (base : ℕ → ℕ) (flags : ℕ) (e : PlainEvent) (s : PlainStroke) w
   texts_reads (lettered l) h = tt
   texts_reads other h = absurd h
 
-reads : (base : ℕ → ℕ) (flags : ℕ) (e : PlainEvent) → Fixed e.key.kind → OffKeypad e → Told (Reads e.key.kind (stroke flags e)) (tells base flags e)
+reads : (base : ℕ → ℕ) (flags : ℕ) (e : PlainEvent) → Fixed e.key.kind → OffKeypad e → IfTold (Reads e.key.kind (stroke flags e)) (tells base flags e)
 reads base flags e h off =
     let k = e.key.kind in
     let s = stroke flags e in

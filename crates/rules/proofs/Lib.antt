@@ -2,6 +2,6 @@ pub mod Backward
 pub mod Bounds
 pub mod Clearness
 pub mod Inverse
-pub mod Kept
 pub mod Numbers
+pub mod Texts
 pub mod Verdicts

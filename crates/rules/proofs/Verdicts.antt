@@ -3,7 +3,7 @@ use Rattle.std.proofs.Common.{◌≡◌, ℕ, Some, None, Option, subst, arith}
 use Rattle.report.specs.declared.ending.Last.{Last}
 use Rattle.report.specs.Meanings.{Meaning}
 use Rattle.events.specs.Kinds.{PlainKind, character, composed, numpad, function, numbered, lettered, other}
-use Rattle.rules.specs.Laws.{Told}
+use Rattle.rules.specs.Laws.{IfTold}
 use Rattle.rules.specs.Rules.{Verdict, passes, silent, says, ◌▸◌, told, on_character, on_function, on_numbered, on_lettered}
 
 pub some_same : {A : Type 0} (x y : A) → Some x ≡ Some y → x ≡ y
@@ -24,13 +24,13 @@ module _ (P : Meaning → Type 0) where
   then silent b p q = p
   then (says m) b p q = p
 
-  pub said : (v : Verdict) → Says P v → Told P (told v)
+  pub said : (v : Verdict) → Says P v → IfTold P (told v)
   said passes p = p
   said silent p = p
   said (says m) p = p
 
   -- what holds of all that is told holds of this
-  pub of_told : (o : Option Meaning) (m : Meaning) → Told P o → o ≡ Some m → P m
+  pub of_told : (o : Option Meaning) (m : Meaning) → IfTold P o → o ≡ Some m → P m
   of_told None m p h = absurd (none_some m h)
   of_told (Some n) m p h = subst P (some_same n m h) p
 

@@ -12,13 +12,13 @@ use Rattle.events.specs.Faults.{faultless}
 use Rattle.rules.specs.Rules.{tells, pad_guess}
 
 -- P holds of what is told, if anything is
-abbrev pub Told : (Meaning → Type 0) → Option Meaning → Type 0
-Told P None = Unit {0}
-Told P (Some m) = P m
+abbrev pub IfTold : (Meaning → Type 0) → Option Meaning → Type 0
+IfTold P None = Unit {0}
+IfTold P (Some m) = P m
 
 -- Where escape codes are disambiguated, what is told is clear.
 abbrev pub ToldClear : Type 0
-ToldClear = (base : ℕ → ℕ) (flags : ℕ) (e : PlainEvent) → holds flags disambiguate ≡ true → Told Clear (tells base flags e)
+ToldClear = (base : ℕ → ℕ) (flags : ℕ) (e : PlainEvent) → holds flags disambiguate ≡ true → IfTold Clear (tells base flags e)
 
 -- no key of the keypad is guessed
 abbrev pub OffKeypad : PlainEvent → Type 0
@@ -42,7 +42,7 @@ Own base (sequence f) = (base f.number ≡ f.number) × (allowed f.number ≡ tr
 
 -- A character key tells its own number.
 abbrev pub OwnNumber : Type 0
-OwnNumber = (base : ℕ → ℕ) (flags : ℕ) (e : PlainEvent) (c : ℕ) → Lawful base → faultless e ≡ true → CharacterKey e c → Told (Own base) (tells base flags e)
+OwnNumber = (base : ℕ → ℕ) (flags : ℕ) (e : PlainEvent) (c : ℕ) → Lawful base → faultless e ≡ true → CharacterKey e c → IfTold (Own base) (tells base flags e)
 
 -- the final of an arrow, Home or End
 abbrev pub Arrow : Last → Type 0

@@ -5,6 +5,7 @@ use Rattle.std.specs.Char.{to_ascii_uppercase}
 use Rattle.input_types.specs.declared.phys_key_code.PhysKeyCode.{PhysKeyCode}
 use Rattle.report.specs.declared.ending.Last.{Last}
 use Rattle.report.specs.declared.ending.Last.TheVariants.{Tilde, Begin}
+use Rattle.report.specs.declared.scalar.Scalar.{Scalar}
 use Rattle.report.specs.Meanings.{Meaning, text, old}
 use Rattle.input_types.specs.Bits.{holds, disambiguate, event_types, alternate_keys, all_keys, shift, alt, ctrl, super, num_lock}
 use Rattle.events.specs.Kinds.{PlainKind, kind_of, character, composed, numpad, function, numbered, lettered, other}
@@ -86,6 +87,9 @@ erased c = cond (c == 8) 127 c
 -- Escape goes on where escape codes are disambiguated, and Delete always does.
 abbrev pub plainly : ℕ → Bool → ℕ → ℕ → Bool
 plainly flags down own c = down && own == 0 && not (holds flags all_keys) && not (c == 27 && holds flags disambiguate) && not (c == 127)
+
+abbrev pub plain_text : Scalar → Meaning
+plain_text c = text c.code
 
 abbrev pub texts : ℕ → Bool → ℕ → PlainKind → Verdict
 texts flags down own k = on_character k (λ c. cond (plainly flags down own c) (says (text (erased c))) passes)
@@ -202,6 +206,14 @@ early flags e k s = releases flags e.down ▸ texts flags e.down e.modifiers k �
 abbrev pub late : (ℕ → ℕ) → ℕ → PlainEvent → PlainKind → PlainStroke → Verdict
 late base flags e k s =
     editing k s ▸ enters flags e.down k ▸ characters base flags e k s ▸ arrows k s ▸ functions k s ▸ functional flags e.raw s
+
+-- what the rule of plain text alone says
+abbrev pub told_text : ℕ → PlainEvent → Option Meaning
+told_text flags e = told (texts flags e.down e.modifiers e.key.kind)
+
+-- the rules behind that of plain text
+abbrev pub behind_text : (ℕ → ℕ) → ℕ → PlainEvent → Verdict
+behind_text base flags e = keypad (holds e.leds num_lock) (guess e) (stroke flags e) ▸ late base flags e e.key.kind (stroke flags e)
 
 abbrev pub verdict : (ℕ → ℕ) → ℕ → PlainEvent → Verdict
 verdict base flags e = early flags e e.key.kind (stroke flags e) ▸ late base flags e e.key.kind (stroke flags e)

@@ -2,7 +2,8 @@
 use Rattle.std.specs.Prelude.{ℕ, List, [], None, Option}
 use Rattle.report.specs.declared.ending.Direction.{Direction}
 use Rattle.report.specs.declared.ending.Last.{Last}
-use Rattle.report.specs.Meanings.{Meaning, characters}
+use Rattle.report.specs.Letters.{spelled}
+use Rattle.report.specs.Meanings.{Meaning}
 use Rattle.report.specs.Made.{bare_key, full_key}
 use Rattle.rules.specs.declared.stroke.Stroke.{Stroke}
 
@@ -12,7 +13,7 @@ pub record PlainStroke : Type 0 where
   pub text : List ℕ
 
 abbrev pub plain_stroke : Stroke → PlainStroke
-plain_stroke s = record { sum = s.sum; direction = s.direction; text = characters s.text }
+plain_stroke s = record { sum = s.sum; direction = s.direction; text = spelled s.letters.spelling }
 
 -- a number and a final alone
 abbrev pub bare : ℕ → Last → PlainStroke → Meaning

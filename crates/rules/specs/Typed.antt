@@ -1,6 +1,7 @@
 -- The text that a key types.
-use Rattle.std.specs.Prelude.{ℕ, ◌+◌, Bool, cond, not, ◌&&◌, List, [], ◌∷◌, nat_le}
+use Rattle.std.specs.Prelude.{ℕ, ◌+◌, Bool, cond, ◌&&◌, List, [], ◌∷◌}
 use Rattle.std.specs.Str.{chars}
+use Rattle.report.specs.Letters.{shown}
 use Rattle.input_types.specs.Bits.{holds, associated_text}
 use Rattle.events.specs.Kinds.{PlainKind, character, composed, numpad, function, numbered, lettered, other}
 
@@ -13,14 +14,6 @@ text_of (function n) = []
 text_of (numbered n) = []
 text_of (lettered l) = []
 text_of other = []
-
--- Control codes are dropped: those below 32, and those from 128 to 159.
-abbrev pub keeps : ℕ → Bool
-keeps c = nat_le 32 c && not (nat_le 128 c && nat_le c 159)
-
-abbrev pub shown : List ℕ → List ℕ
-shown [] = []
-shown (c ∷ cs) = cond (keeps c) (c ∷ shown cs) (shown cs)
 
 -- A press holds its text where associated text is asked for; a release holds none.
 abbrev pub typed : ℕ → Bool → PlainKind → List ℕ

@@ -1,7 +1,7 @@
 // What a character key tells.
 ghost use Rattle.std.specs.Prelude.{◌≡◌, true};
 ghost use Rattle.report.specs.Sound.{coded};
-ghost use Rattle.report.specs.Meanings.{means};
+ghost use Rattle.report.specs.Telling.{told_means};
 ghost use Rattle.events.specs.Events.{phys_raw, reported};
 ghost use Rattle.events.specs.Passed.{event_of};
 ghost use Rattle.rules.specs.Strokes.{plain_stroke};
@@ -17,10 +17,11 @@ use input_types::flags::KittyKeyboardFlags;
 use input_types::modifiers::Modifiers;
 use input_types::phys_key_code::PhysKeyCode;
 use layout::Layout;
-use report::making::{after_escape, plain_text};
-use report::report::Report;
+use report::scalar::Scalar;
+use report::told::Told;
 
 // What Ctrl makes of a character.
+#[inline(always)]
 fn with_ctrl(c: char) -> char
     ensures { result ≡ controlled c }
 {
@@ -29,8 +30,9 @@ fn with_ctrl(c: char) -> char
 }
 
 // A character as terminals without the protocol write it.
-fn old_form(own: Modifiers, c: char) -> Report
-    ensures { means result ≡ old_form own.bits c }
+#[inline(always)]
+fn old_form<'a>(own: Modifiers, c: char) -> Told<'a>
+    ensures { told_means result ≡ old_form own.bits c }
 {
     let written = if own.contains(Modifiers::CTRL) {
         with_ctrl(c)
@@ -38,13 +40,14 @@ fn old_form(own: Modifiers, c: char) -> Report
         c
     };
     if own.contains(Modifiers::ALT) {
-        after_escape(written)
+        Told::Old(Scalar::new(written))
     } else {
-        plain_text(written)
+        Told::Text(Scalar::new(written))
     }
 }
 
 // The character that a physical key means. Delete is none: in a sequence 127 is Backspace.
+#[inline(always)]
 fn given_by(phys: Option<PhysKeyCode>) -> Option<char>
     ensures { result ≡ given_by phys }
 {
@@ -55,8 +58,9 @@ fn given_by(phys: Option<PhysKeyCode>) -> Option<char>
     }
 }
 
-impl Input<'_> {
+impl<'a> Input<'a> {
     // Whether a character goes the old way.
+    #[inline(always)]
     fn is_old(&self, c: char) -> bool
         ensures { result ≡ old_way self.now.flags.bits (event_of self.now.key).down (event_of self.now.key).modifiers c }
     {
@@ -77,6 +81,7 @@ impl Input<'_> {
     }
 
     // That a code is in range is a clause: `Sequence` has plain numbers as fields, and holds the fact of them.
+    #[inline(always)]
     fn shifted_code(&self, c: char, base: char) -> Option<u32>
         ensures value { result ≡ shifted_code self.now.flags.bits (reported (event_of self.now.key)) c base }
         ensures bound { coded result ≡ true }
@@ -94,6 +99,7 @@ impl Input<'_> {
         }
     }
 
+    #[inline(always)]
     fn layout_code(&self, number: char) -> Option<u32>
         ensures value { result ≡ layout_code self.now.flags.bits (phys_raw (event_of self.now.key).raw) number }
         ensures bound { coded result ≡ true }
@@ -113,8 +119,9 @@ impl Input<'_> {
     }
 
     // A character by its base, with what goes along with it.
-    fn new_form<L: Layout>(&self, layout: &L, c: char, stroke: &Stroke) -> Report
-        ensures { means result ≡ new_form (L.base layout.now) self.now.flags.bits (event_of self.now.key) c (plain_stroke stroke.now) }
+    #[inline(always)]
+    fn new_form<L: Layout>(&self, layout: &L, c: char, stroke: &Stroke<'a>) -> Told<'a>
+        ensures { told_means result ≡ new_form (L.base layout.now) self.now.flags.bits (event_of self.now.key) c (plain_stroke stroke.now) }
     {
         let number = layout.base_of(c);
         let shifted = self.shifted_code(c, number);
@@ -122,8 +129,14 @@ impl Input<'_> {
         full_key(number as u32, shifted, base, stroke)
     }
 
-    pub(crate) fn character_key<L: Layout>(&self, layout: &L, c: char, stroke: &Stroke) -> Report
-        ensures { means result ≡ character_key (L.base layout.now) self.now.flags.bits (event_of self.now.key) c (plain_stroke stroke.now) }
+    #[inline(always)]
+    pub(crate) fn character_key<L: Layout>(
+        &self,
+        layout: &L,
+        c: char,
+        stroke: &Stroke<'a>,
+    ) -> Told<'a>
+        ensures { told_means result ≡ character_key (L.base layout.now) self.now.flags.bits (event_of self.now.key) c (plain_stroke stroke.now) }
     {
         if self.is_old(c) {
             old_form(self.key.modifiers(), c)

@@ -106,6 +106,7 @@ const PADS: [Pad; 18] = [
 ];
 
 // The place of a key of the keypad in the table: a match, since a search would compare up to 18 keys one by one.
+#[inline(always)]
 fn pad_place(phys: PhysKeyCode) -> Option<usize>
     ensures place { result ≡ pad_place phys }
     ensures bound { IfSome result (λ i. i < 18) }
@@ -135,6 +136,7 @@ fn pad_place(phys: PhysKeyCode) -> Option<usize>
 }
 
 // The number at a place of a table.
+#[inline(always)]
 fn number_in(table: &[Pad; 18], place: usize, lock: bool) -> u32
     requires { place < 18 }
     ensures { result ≡ number_in table.now place lock }
@@ -144,6 +146,7 @@ fn number_in(table: &[Pad; 18], place: usize, lock: bool) -> u32
 }
 
 // The number of a key of the keypad; other keys have none.
+#[inline(always)]
 pub fn pad_code(phys: PhysKeyCode, lock: bool) -> Option<u32>
     ensures value { result ≡ pad_code phys lock }
     ensures bound { IfSome result (λ n. n ≤ 57426) }

@@ -1,7 +1,7 @@
 // The rules by a key's kind.
 ghost use Rattle.std.specs.Prelude.{◌≡◌, ◌≤◌, slice_index};
 ghost use Rattle.std.specs.Option.{option_map};
-ghost use Rattle.report.specs.Meanings.{means};
+ghost use Rattle.report.specs.Telling.{told_means};
 ghost use Rattle.events.specs.Kinds.{plain_kind, character};
 ghost use Rattle.events.specs.Passed.{event_of};
 ghost use Rattle.rules.specs.Strokes.{plain_stroke};
@@ -14,11 +14,12 @@ use events::kind::Kind;
 use input_types::flags::KittyKeyboardFlags;
 use layout::Layout;
 use report::ending::Last;
-use report::report::Report;
-use report::text::Text;
+use report::letters::Letters;
+use report::told::Told;
 
 // The number of each of the first twelve function keys. A match: a table would want the place proved to lie in it
-// at each read, and no caller reads it whole.
+// at each read, and no caller reads it whole. Apart from its caller it is compiled to a table all the same.
+#[inline(never)]
 fn function_number(n: u8) -> u32
     requires { (1 ≤ n) × (n ≤ 12) }
     ensures value { result ≡ slice_index function_numbers n }
@@ -41,8 +42,9 @@ fn function_number(n: u8) -> u32
 }
 
 // The first twelve end in ~, and the next twelve in u, with no text.
-fn function_rule(n: u8, stroke: &Stroke) -> Option<Report>
-    ensures { ruled (option_map means result) ≡ function_tells n (plain_stroke stroke.now) }
+#[inline(always)]
+fn function_rule<'a>(n: u8, stroke: &Stroke<'a>) -> Option<Told<'a>>
+    ensures { ruled (option_map told_means result) ≡ function_tells n (plain_stroke stroke.now) }
 {
     match n {
         1..=12 => Some(bare_key(function_number(n), Last::Tilde, stroke)),
@@ -51,7 +53,7 @@ fn function_rule(n: u8, stroke: &Stroke) -> Option<Report>
             let wordless = Stroke {
                 sum: stroke.sum,
                 direction: stroke.direction,
-                text: Text::none(),
+                letters: Letters::none(),
             };
             Some(full_key(57363 + n as u32, None, None, &wordless))
         }
@@ -59,8 +61,9 @@ fn function_rule(n: u8, stroke: &Stroke) -> Option<Report>
     }
 }
 
-impl Input<'_> {
+impl<'a> Input<'a> {
     // Whether a release is one of Enter, Tab or Backspace that stays silent.
+    #[inline(always)]
     fn is_entering(&self, c: char) -> bool
         ensures { result ≡ entering self.now.flags.bits (event_of self.now.key).down c }
     {
@@ -71,8 +74,9 @@ impl Input<'_> {
             && matches!(c, '\r' | '\t' | '\u{8}')
     }
 
-    fn char_rules<L: Layout>(&self, layout: &L, c: char, stroke: &Stroke) -> Option<Report>
-        ensures { option_map means result ≡ told (late (L.base layout.now) self.now.flags.bits (event_of self.now.key) (character c) (plain_stroke stroke.now)) }
+    #[inline(always)]
+    fn char_rules<L: Layout>(&self, layout: &L, c: char, stroke: &Stroke<'a>) -> Option<Told<'a>>
+        ensures { option_map told_means result ≡ told (late (L.base layout.now) self.now.flags.bits (event_of self.now.key) (character c) (plain_stroke stroke.now)) }
     {
         if c == '\u{7f}' {
             return Some(bare_key(3, Last::Tilde, stroke));
@@ -84,8 +88,9 @@ impl Input<'_> {
     }
 
     // A key of a raw event by its number among the functional keys.
-    fn functional_rule(&self, stroke: &Stroke) -> Option<Report>
-        ensures { ruled (option_map means result) ≡ functional self.now.flags.bits (event_of self.now.key).raw (plain_stroke stroke.now) }
+    #[inline(always)]
+    fn functional_rule(&self, stroke: &Stroke<'a>) -> Option<Told<'a>>
+        ensures { ruled (option_map told_means result) ≡ functional self.now.flags.bits (event_of self.now.key).raw (plain_stroke stroke.now) }
     {
         if !self
             .flags
@@ -101,13 +106,14 @@ impl Input<'_> {
         }
     }
 
+    #[inline(always)]
     pub(crate) fn late_rules<L: Layout>(
         &self,
         layout: &L,
         kind: Kind,
-        stroke: &Stroke,
-    ) -> Option<Report>
-        ensures { option_map means result ≡ told (late (L.base layout.now) self.now.flags.bits (event_of self.now.key) (plain_kind kind.entry) (plain_stroke stroke.now)) }
+        stroke: &Stroke<'a>,
+    ) -> Option<Told<'a>>
+        ensures { option_map told_means result ≡ told (late (L.base layout.now) self.now.flags.bits (event_of self.now.key) (plain_kind kind.entry) (plain_stroke stroke.now)) }
     {
         match kind {
             Kind::Char(c) => self.char_rules(layout, c, stroke),

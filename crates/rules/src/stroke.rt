@@ -2,12 +2,12 @@
 ghost use Rattle.std.specs.Prelude.{◌≤◌};
 
 use report::ending::Direction;
-use report::text::Text;
+use report::letters::Letters;
 
 #[derive(Clone, Copy)]
-pub struct Stroke {
+pub struct Stroke<'a> {
     pub sum: u8,
     pub direction: Direction,
-    pub text: Text,
+    pub letters: Letters<'a>,
     ghost sum_fits: { sum ≤ 255 },
 }

@@ -37,6 +37,7 @@ pub fn make<W: Wire, L: Layout, D: Dialect>(
     ensures reading { GoesOn (view_of W.Wire L.Layout D.Dialect seat.old) (call_of (length buffer.old) call.now) (counted result) (moved_by call.now result buffer.new) (view_of W.Wire L.Layout D.Dialect seat.new) }
     ensures rest { drop (handedBy call.now result) buffer.new ≡ drop (handedBy call.now result) buffer.old }
     ensures room { handedBy call.now result ≤ length buffer.old }
+    ensures keeps { W.keeps seat.old.wire seat.new.wire }
 {
     match call {
         Call::Key(event) => seat.key(event),

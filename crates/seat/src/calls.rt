@@ -1,7 +1,7 @@
 // The calls of a seat.
 // Settings, counts, modes and screens are whole numbers, so that an unlisted one can come and is refused.
 ghost use Rattle.std.specs.Prelude.{◌≡◌, ◌≤◌, [], length, take, drop, MatchResult};
-ghost use Rattle.report.specs.Meanings.{means};
+ghost use Rattle.report.specs.Telling.{told_means};
 ghost use Rattle.events.specs.Events.{plain_event};
 ghost use Rattle.settings.specs.Rows.{stacks_of};
 ghost use Rattle.settings.specs.Stack.{fresh};
@@ -18,7 +18,7 @@ use events::checking::check;
 use input_types::event::KeyEvent;
 use input_types::flags::KittyKeyboardFlags;
 use layout::Layout;
-use report::report::Report;
+use report::told::Told;
 use rules::telling::tell;
 use settings::settings::{Screen, Settings};
 use wire::Wire;
@@ -35,8 +35,9 @@ fn flags_of(flags: u32) -> Result<KittyKeyboardFlags, Refusal>
 
 impl<W: Wire, L: Layout, D: Dialect> Seat<W, L, D> {
     // Hands a report to the wire, whole or not at all.
-    fn send(&mut self, report: &Report) -> Result<usize, Refusal>
-        ensures { Sent (view_of W.Wire L.Layout D.Dialect self.old) (means report.now) result (view_of W.Wire L.Layout D.Dialect self.new) }
+    fn send(&mut self, report: &Told) -> Result<usize, Refusal>
+        ensures sent { Sent (view_of W.Wire L.Layout D.Dialect self.old) (told_means report.now) result (view_of W.Wire L.Layout D.Dialect self.new) }
+        ensures keeps { W.keeps self.old.wire self.new.wire }
     {
         let mut room = [0; 512];
         let n = self.dialect.write(report, &mut room);
@@ -64,6 +65,7 @@ impl<W: Wire, L: Layout, D: Dialect> Seat<W, L, D> {
     pub fn key<'a>(&mut self, event: &'a KeyEvent<'a>) -> Result<usize, Refusal>
         ensures steps { Steps (view_of W.Wire L.Layout D.Dialect self.old) (Key (plain_event event.now)) (counted result) [] (view_of W.Wire L.Layout D.Dialect self.new) }
         ensures reading { GoesOn (view_of W.Wire L.Layout D.Dialect self.old) (Key (plain_event event.now)) (counted result) [] (view_of W.Wire L.Layout D.Dialect self.new) }
+        ensures keeps { W.keeps self.old.wire self.new.wire }
     {
         let key = check(event)?;
         let flags = self.settings.top();
@@ -78,6 +80,7 @@ impl<W: Wire, L: Layout, D: Dialect> Seat<W, L, D> {
     pub fn push(&mut self, flags: u32) -> Result<(), Refusal>
         ensures steps { Steps (view_of W.Wire L.Layout D.Dialect self.old) (Push flags) (plain_reply result) [] (view_of W.Wire L.Layout D.Dialect self.new) }
         ensures reading { GoesOn (view_of W.Wire L.Layout D.Dialect self.old) (Push flags) (plain_reply result) [] (view_of W.Wire L.Layout D.Dialect self.new) }
+        ensures keeps { W.keeps self.old.wire self.new.wire }
     {
         let pushed = flags_of(flags)?;
         self.settings.push(pushed);
@@ -88,6 +91,7 @@ impl<W: Wire, L: Layout, D: Dialect> Seat<W, L, D> {
     pub fn pop(&mut self, n: usize) -> Result<(), Refusal>
         ensures steps { Steps (view_of W.Wire L.Layout D.Dialect self.old) (Pop n) (plain_reply result) [] (view_of W.Wire L.Layout D.Dialect self.new) }
         ensures reading { GoesOn (view_of W.Wire L.Layout D.Dialect self.old) (Pop n) (plain_reply result) [] (view_of W.Wire L.Layout D.Dialect self.new) }
+        ensures keeps { W.keeps self.old.wire self.new.wire }
     {
         if n == 0 {
             return Err(Refusal::Value);
@@ -100,6 +104,7 @@ impl<W: Wire, L: Layout, D: Dialect> Seat<W, L, D> {
     pub fn set(&mut self, flags: u32, mode: u32) -> Result<(), Refusal>
         ensures steps { Steps (view_of W.Wire L.Layout D.Dialect self.old) (Set flags mode) (plain_reply result) [] (view_of W.Wire L.Layout D.Dialect self.new) }
         ensures reading { GoesOn (view_of W.Wire L.Layout D.Dialect self.old) (Set flags mode) (plain_reply result) [] (view_of W.Wire L.Layout D.Dialect self.new) }
+        ensures keeps { W.keeps self.old.wire self.new.wire }
     {
         let given = flags_of(flags)?;
         let mode = Mode::try_from(mode)?;
@@ -112,6 +117,7 @@ impl<W: Wire, L: Layout, D: Dialect> Seat<W, L, D> {
     pub fn screen(&mut self, screen: usize) -> Result<(), Refusal>
         ensures steps { Steps (view_of W.Wire L.Layout D.Dialect self.old) (Screened screen) (plain_reply result) [] (view_of W.Wire L.Layout D.Dialect self.new) }
         ensures reading { GoesOn (view_of W.Wire L.Layout D.Dialect self.old) (Screened screen) (plain_reply result) [] (view_of W.Wire L.Layout D.Dialect self.new) }
+        ensures keeps { W.keeps self.old.wire self.new.wire }
     {
         let shown = Screen::try_from(screen).map_err(|_| Refusal::Value)?;
         self.settings.show(shown);
@@ -122,15 +128,17 @@ impl<W: Wire, L: Layout, D: Dialect> Seat<W, L, D> {
     pub fn query(&mut self) -> Result<usize, Refusal>
         ensures steps { Steps (view_of W.Wire L.Layout D.Dialect self.old) Query (counted result) [] (view_of W.Wire L.Layout D.Dialect self.new) }
         ensures reading { GoesOn (view_of W.Wire L.Layout D.Dialect self.old) Query (counted result) [] (view_of W.Wire L.Layout D.Dialect self.new) }
+        ensures keeps { W.keeps self.old.wire self.new.wire }
     {
         let flags = self.settings.top();
-        self.send(&Report::Answer(flags))
+        self.send(&Told::Answer(flags))
     }
 
     // Hands over the oldest bytes, and answers how many; the rest of the buffer stays.
     pub fn drain(&mut self, buffer: &mut [u8]) -> usize
         ensures steps { Steps (view_of W.Wire L.Layout D.Dialect self.old) (Drain (length buffer.old)) (Done result) (take result buffer.new) (view_of W.Wire L.Layout D.Dialect self.new) }
         ensures reading { GoesOn (view_of W.Wire L.Layout D.Dialect self.old) (Drain (length buffer.old)) (Done result) (take result buffer.new) (view_of W.Wire L.Layout D.Dialect self.new) }
+        ensures keeps { W.keeps self.old.wire self.new.wire }
         ensures rest { drop result buffer.new ≡ drop result buffer.old }
     {
         self.wire.take(buffer)

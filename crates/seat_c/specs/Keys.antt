@@ -12,6 +12,6 @@ abbrev pub KeyOverRing : Option KeyEvent → RingState → Answer → RingState 
 KeyOverRing None k a k' = Refused 26 k [] a [] k'
 KeyOverRing (Some e) k a k' = RingAnswers k (Key e) [] a [] k'
 
-abbrev pub KeyOverPage : Option KeyEvent → PageState → List ℕ → Answer → PageState → Type 0
-KeyOverPage None k page a k' = Refused 26 k [] a [] k'
-KeyOverPage (Some e) k page a k' = PageAnswers k page (Key e) [] a [] k'
+abbrev pub KeyOverPage : Option KeyEvent → PageState → List ℕ → Answer → PageState → List ℕ → Type 0
+KeyOverPage None k page a k' page' = Refused {S = PageState × List ℕ} 26 (k, page) [] a [] (k', page')
+KeyOverPage (Some e) k page a k' page' = PageAnswers k page (Key e) [] a [] k' page'

@@ -21,7 +21,7 @@ pub extern "C" fn seat_page_open(
     layout: u32,
     dialect: u32,
 ) -> Answer
-    ensures { OpensPage layout dialect page.old state.old result state.new }
+    ensures { OpensPage layout dialect page.old state.old result state.new page.new }
 {
     page_open(state, page, layout, dialect)
 }
@@ -35,7 +35,7 @@ pub extern "C" fn seat_page_key(
     text: &[u8],
     raw_text: &[u8],
 ) -> Answer
-    ensures { KeyOverPage (event_by event.now text.entry raw_text.entry) state.old page.old result state.new }
+    ensures { KeyOverPage (event_by event.now text.entry raw_text.entry) state.old page.old result state.new page.new }
 {
     match event_by(event, text, raw_text) {
         Some(event) => page_ask(state, page, &Call::Key(event)),
@@ -46,7 +46,7 @@ pub extern "C" fn seat_page_key(
 // One setting more on the shown screen.
 #[unsafe(no_mangle)]
 pub extern "C" fn seat_page_push(state: &mut PageState, page: &mut [u8], flags: u32) -> Answer
-    ensures { PageAnswers state.old page.old (Pushes flags) [] result [] state.new }
+    ensures { PageAnswers state.old page.old (Pushes flags) [] result [] state.new page.new }
 {
     page_ask(state, page, &Call::Push(flags))
 }
@@ -54,7 +54,7 @@ pub extern "C" fn seat_page_push(state: &mut PageState, page: &mut [u8], flags: 
 // So many settings less on the shown screen.
 #[unsafe(no_mangle)]
 pub extern "C" fn seat_page_pop(state: &mut PageState, page: &mut [u8], count: usize) -> Answer
-    ensures { PageAnswers state.old page.old (Pops count) [] result [] state.new }
+    ensures { PageAnswers state.old page.old (Pops count) [] result [] state.new page.new }
 {
     page_ask(state, page, &Call::Pop(count))
 }
@@ -67,7 +67,7 @@ pub extern "C" fn seat_page_set(
     flags: u32,
     mode: u32,
 ) -> Answer
-    ensures { PageAnswers state.old page.old (Sets flags mode) [] result [] state.new }
+    ensures { PageAnswers state.old page.old (Sets flags mode) [] result [] state.new page.new }
 {
     page_ask(state, page, &Call::Set(flags, mode))
 }
@@ -75,7 +75,7 @@ pub extern "C" fn seat_page_set(
 // Shows the main screen, 0, or the alternate one, 1.
 #[unsafe(no_mangle)]
 pub extern "C" fn seat_page_screen(state: &mut PageState, page: &mut [u8], screen: usize) -> Answer
-    ensures { PageAnswers state.old page.old (Screens screen) [] result [] state.new }
+    ensures { PageAnswers state.old page.old (Screens screen) [] result [] state.new page.new }
 {
     page_ask(state, page, &Call::Screen(screen))
 }
@@ -83,7 +83,7 @@ pub extern "C" fn seat_page_screen(state: &mut PageState, page: &mut [u8], scree
 // Answers the setting in force.
 #[unsafe(no_mangle)]
 pub extern "C" fn seat_page_query(state: &mut PageState, page: &mut [u8]) -> Answer
-    ensures { PageAnswers state.old page.old Queries [] result [] state.new }
+    ensures { PageAnswers state.old page.old Queries [] result [] state.new page.new }
 {
     page_ask(state, page, &Call::Query)
 }
@@ -95,7 +95,7 @@ pub extern "C" fn seat_page_drain(
     page: &mut [u8],
     buffer: &mut [u8],
 ) -> Answer
-    ensures { PageAnswers state.old page.old (Drains (length buffer.old)) buffer.old result buffer.new state.new }
+    ensures { PageAnswers state.old page.old (Drains (length buffer.old)) buffer.old result buffer.new state.new page.new }
 {
     let room = buffer.len();
     page_call(state, page, &Call::Drain(room), buffer)

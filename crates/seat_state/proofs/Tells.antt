@@ -1,5 +1,5 @@
 -- The numbers that are kept of a seat tell it, and are a seat's.
-use Rattle.std.proofs.Common.{◌≡◌, ℕ, zero, suc, ◌<◌, ◌≤◌, List, [], ◌∷◌, map, take, get_or, refl, ap, sym, subst, ◌∙◌, inl, inr, arith}
+use Rattle.std.proofs.Common.{◌≡◌, ℕ, zero, suc, ◌<◌, ◌≤◌, List, [], ◌∷◌, map, length, take, get_or, refl, ap, sym, subst, ◌∙◌, inl, inr, arith}
 use Rattle.std.proofs.lemmas.List.{take-map}
 use Rattle.input_types.specs.declared.flags.KittyKeyboardFlags.{KittyKeyboardFlags}
 use Rattle.settings.specs.declared.row.Row.{Row}
@@ -7,7 +7,7 @@ use Rattle.settings.specs.declared.settings.Screen.{Screen}
 use Rattle.settings.specs.declared.settings.Screen.TheVariants.{Main, Alternate}
 use Rattle.settings.specs.declared.settings.Settings.{Settings}
 use Rattle.settings.specs.Numbers.{NoRow}
-use Rattle.settings.specs.Rows.{stack_of, screen_number}
+use Rattle.settings.specs.Rows.{stack_of, stacks_of, screen_number}
 use Rattle.settings.specs.Stack.{Stacks}
 use Rattle.seat_state.specs.declared.known.AnyLayout.{AnyLayout}
 use Rattle.seat_state.specs.declared.known.AnyLayout.TheVariants.{Us, Bare}
@@ -16,7 +16,7 @@ use Rattle.seat_state.specs.declared.known.AnyDialect.TheVariants.{Kitty, Frames
 use Rattle.seat_state.specs.declared.kept.Kept.{Kept}
 use Rattle.seat_state.specs.Known.{layout_number, dialect_number}
 use Rattle.seat_state.specs.Keeping.{bits, Keeps, NoSeat}
-use Rattle.seat_state.specs.Telling.{OneSeat, NeverRefused}
+use Rattle.seat_state.specs.Telling.{OneSeat, NeverRefused, OnePageSeat, PageNeverRefused}
 
 layout_same : (l m : AnyLayout) → layout_number l ≡ layout_number m → l ≡ m
 layout_same Us Us e = refl
@@ -47,16 +47,34 @@ rows_same (x ∷ xs) (y ∷ ys) e f =
 stacks : (a b : List (List ℕ)) (i j : ℕ) → a ≡ b → i ≡ j → (let s : Stacks = record { rows = a; shown = i } in s) ≡ record { rows = b; shown = j }
 stacks a b i j e f = cc
 
+module _ {k : Kept} {l m : AnyLayout} {d e : AnyDialect} {s t : Settings} (x : Keeps k l d s) (y : Keeps k m e t) where
+  one_layout : l ≡ m
+  one_layout = layout_same l m (sym x.layout ∙ y.layout)
+
+  one_dialect : d ≡ e
+  one_dialect = dialect_same d e (sym x.dialect ∙ y.dialect)
+
+  one_settings : stacks_of s ≡ stacks_of t
+  one_settings = stacks _ _ _ _ (rows_same s.rows t.rows (x.held ∙ sym y.held) (x.numbers ∙ sym y.numbers)) (sym x.shown ∙ y.shown)
+
 pub one_seat : OneSeat
 one_seat k s t a b =
-    let x = a.kept in
-    let y = b.kept in
     record {
-      layout = layout_same s.layout t.layout (sym x.layout ∙ y.layout);
-      dialect = dialect_same s.dialect t.dialect (sym x.dialect ∙ y.dialect);
-      settings = stacks _ _ _ _ (rows_same s.settings.rows t.settings.rows (x.held ∙ sym y.held) (x.numbers ∙ sym y.numbers)) (sym x.shown ∙ y.shown);
+      layout = one_layout a.kept b.kept;
+      dialect = one_dialect a.kept b.kept;
+      settings = one_settings a.kept b.kept;
       table = sym a.table ∙ b.table;
       head = sym a.head ∙ b.head;
+      len = sym a.count ∙ b.count;
+    }
+
+pub one_page_seat : OnePageSeat
+one_page_seat k page s t a b =
+    record {
+      layout = one_layout a.kept b.kept;
+      dialect = one_dialect a.kept b.kept;
+      settings = one_settings a.kept b.kept;
+      bytes = sym a.page_is ∙ b.page_is;
       len = sym a.count ∙ b.count;
     }
 
@@ -101,3 +119,11 @@ pub never_refused : NeverRefused
 never_refused k s a (inl h) = seat_is k.kept s.layout s.dialect s.settings a.kept h
 never_refused k s a (inr (inl h)) = let begins = s.wire.begins in let is = a.head in omega arith
 never_refused k s a (inr (inr h)) = let held = s.wire.held in let is = a.count in omega arith
+
+pub page_never_refused : PageNeverRefused
+page_never_refused k page s a (inl h) = seat_is k.kept s.layout s.dialect s.settings a.kept h
+page_never_refused k page s a (inr h) =
+    let held = s.wire.held in
+    let count = a.count in
+    let same : length page ≡ length s.wire.buffer.now = ap length a.page_is in
+    omega arith

@@ -42,16 +42,22 @@ abbrev pub RingAnswers : RingState → Call → List ℕ → Answer → List ℕ
 RingAnswers k call before a after k' =
     (NoRing k × Refused 25 k before a after k') ⊎ RingCalled k call before a after k'
 
--- The page after the call has no name here: the seat that is left has it.
-pub record PageCalled (k : PageState) (page : List ℕ) (call : Call) (before : List ℕ) (a : Answer) (after : List ℕ) (k' : PageState) : Type 0 where
+-- An accepted call leaves a page of the same size, over which the seat's wire lies: what waits is as many bytes of its
+-- front as the state counts, and those behind stay.
+pub record LeavesPage (page : List ℕ) (k : PageState) (page' : List ℕ) (s : PageSeat) : Type 0 where
+  pub kept : KeepsPage k page' s
+  pub size : length page' ≡ length page
+  pub behind : drop k.count page' ≡ drop k.count page
+
+pub record PageCalled (k : PageState) (page : List ℕ) (call : Call) (before : List ℕ) (a : Answer) (after : List ℕ) (k' : PageState) (page' : List ℕ) : Type 0 where
   pub from : PageSeat
   pub to : PageSeat
   pub outcome : Result ℕ Refusal
   pub read : KeepsPage k page from
   pub answer : a ≡ answer_of outcome
   pub made : Made (page_view from) call before outcome after (page_view to)
-  pub left : Leaves outcome k k' (KeepsPage k' to.wire.buffer.now to) (page_view to ≡ page_view from)
+  pub left : Leaves {S = PageState × List ℕ} outcome (k, page) (k', page') (LeavesPage page k' page' to) (page_view to ≡ page_view from)
 
-abbrev pub PageAnswers : PageState → List ℕ → Call → List ℕ → Answer → List ℕ → PageState → Type 0
-PageAnswers k page call before a after k' =
-    (NoPage k page × Refused 25 k before a after k') ⊎ PageCalled k page call before a after k'
+abbrev pub PageAnswers : PageState → List ℕ → Call → List ℕ → Answer → List ℕ → PageState → List ℕ → Type 0
+PageAnswers k page call before a after k' page' =
+    (NoPage k page × Refused {S = PageState × List ℕ} 25 (k, page) before a after (k', page')) ⊎ PageCalled k page call before a after k' page'

@@ -3,4 +3,5 @@ pub mod Calls
 pub mod Keeping
 pub mod Known
 pub mod Opening
+pub mod Over
 pub mod Telling

@@ -26,13 +26,16 @@ pub record OpenedRing (layout dialect : ℕ) (a : Answer) (k : RingState) : Type
 abbrev pub OpensRing : ℕ → ℕ → RingState → Answer → RingState → Type 0
 OpensRing layout dialect k a k' = Unopened layout dialect k a k' ⊎ OpenedRing layout dialect a k'
 
-pub record OpenedPage (layout dialect : ℕ) (page : List ℕ) (a : Answer) (k : PageState) : Type 0 where
+-- The same over a page, which keeps its bytes.
+pub record OpenedPage (layout dialect : ℕ) (page : List ℕ) (a : Answer) (k : PageState) (page' : List ℕ) : Type 0 where
   pub seat : PageSeat
-  pub kept : KeepsPage k page seat
+  pub kept : KeepsPage k page' seat
+  pub same : page' ≡ page
   pub layout_is : layout_number seat.layout ≡ layout
   pub dialect_is : dialect_number seat.dialect ≡ dialect
   pub reading : OneReading (page_view seat) []
   pub answer : a ≡ done 0
 
-abbrev pub OpensPage : ℕ → ℕ → List ℕ → PageState → Answer → PageState → Type 0
-OpensPage layout dialect page k a k' = Unopened layout dialect k a k' ⊎ OpenedPage layout dialect page a k'
+abbrev pub OpensPage : ℕ → ℕ → List ℕ → PageState → Answer → PageState → List ℕ → Type 0
+OpensPage layout dialect page k a k' page' =
+    Unopened {S = PageState × List ℕ} layout dialect (k, page) a (k', page') ⊎ OpenedPage layout dialect page a k' page'

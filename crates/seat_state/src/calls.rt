@@ -4,8 +4,8 @@ ghost use Rattle.seat_state.specs.Calls.{RingAnswers, PageAnswers};
 
 use crate::answer::{Answer, NO_STATE};
 use crate::kept::{PageState, RingState};
+use crate::over::call_over;
 use script::{Call, make};
-use seat::seat::Seat;
 use wire::page::Page;
 
 // Makes one call of a seat over a ring; what a drain hands over stands at the front of the buffer, whose rest stays.
@@ -24,18 +24,18 @@ pub fn ring_call(state: &mut RingState, call: &Call, buffer: &mut [u8]) -> Answe
 
 // The same over a page, of which the state's count says how many bytes wait at its front.
 pub fn page_call(state: &mut PageState, page: &mut [u8], call: &Call, buffer: &mut [u8]) -> Answer
-    ensures { PageAnswers state.old page.old call.now buffer.old result buffer.new state.new }
+    ensures { PageAnswers state.old page.old call.now buffer.old result buffer.new state.new page.new }
 {
-    let Some(upper) = state.kept.upper() else {
+    let Some(mut upper) = state.kept.upper() else {
         return Answer::refused(NO_STATE);
     };
-    let Some(wire) = Page::resume(page, state.count) else {
+    if state.count > page.len() {
         return Answer::refused(NO_STATE);
-    };
-    let mut seat = Seat::resume(wire, upper.layout, upper.dialect, upper.settings);
-    let made = make(&mut seat, call, buffer);
+    }
+    let mut wire = Page::resume(page, state.count);
+    let made = call_over(&mut wire, &mut upper, call, buffer);
     if made.is_ok() {
-        *state = PageState::of(&seat);
+        *state = PageState::of(&wire, &upper);
     }
     made.into()
 }
@@ -48,7 +48,7 @@ pub fn ring_ask(state: &mut RingState, call: &Call) -> Answer
 }
 
 pub fn page_ask(state: &mut PageState, page: &mut [u8], call: &Call) -> Answer
-    ensures { PageAnswers state.old page.old call.now [] result [] state.new }
+    ensures { PageAnswers state.old page.old call.now [] result [] state.new page.new }
 {
     page_call(state, page, call, &mut [])
 }

@@ -1,7 +1,8 @@
 // What a caller keeps of a seat, as plain numbers. Nothing is trusted of them before it is checked.
 ghost use Rattle.std.specs.Prelude.{◌≡◌, MatchOption};
-ghost use Rattle.seat_state.specs.Telling.{OneSeat, NeverRefused};
+ghost use Rattle.seat_state.specs.Telling.{OneSeat, NeverRefused, OnePageSeat, PageNeverRefused};
 ghost use Rattle.seat_state.specs.Keeping.{Keeps, NoSeat, KeepsRing, NoRing, KeepsPage};
+ghost use Rattle.seat_state.specs.Over.{over};
 
 use crate::known::{AnyDialect, AnyLayout};
 use seat::seat::Seat;
@@ -50,10 +51,13 @@ pub(crate) struct Upper {
     pub(crate) settings: Settings,
 }
 
-// The numbers of a seat over a ring are that seat's alone, and are never refused.
+// The numbers of a seat over a ring are that seat's alone, and are never refused; so are those of a seat over a page,
+// with the page's bytes.
 pub fn numbers_tell()
     ensures alone { OneSeat }
     ensures kept { NeverRefused }
+    ensures page_alone { OnePageSeat }
+    ensures page_kept { PageNeverRefused }
 {}
 
 impl Kept {
@@ -115,12 +119,12 @@ impl RingState {
 
 impl PageState {
     // The numbers of a seat.
-    pub fn of(seat: &Seat<Page, AnyLayout, AnyDialect>) -> PageState
-        ensures { KeepsPage result seat.now.wire.buffer.now seat.now }
+    pub(crate) fn of(wire: &Page, upper: &Upper) -> PageState
+        ensures { KeepsPage result wire.now.buffer.now (over wire.now upper.now) }
     {
         PageState {
-            count: seat.wire().len(),
-            kept: Kept::of(*seat.layout(), *seat.dialect(), seat.settings()),
+            count: wire.len(),
+            kept: Kept::of(upper.layout, upper.dialect, &upper.settings),
         }
     }
 }

@@ -1,5 +1,7 @@
 // The layouts and the dialects that a number can name, each as one type, so that a seat over them has one type too.
-ghost use Rattle.std.specs.Prelude.{◌≡◌, ◌≤◌, MatchResult};
+ghost use Rattle.std.specs.Prelude.{◌≡◌, ◌≤◌, ◌++◌, length, drop, MatchResult};
+ghost use Rattle.report.specs.Telling.{told_means};
+ghost use Rattle.frames.specs.Framing.{frame_bytes};
 ghost use Rattle.seat_state.specs.Known.{layout_number, base_in, settles, keeps, dialect_number, bytes_in, sizes, parts};
 
 use dialect::dialect::Dialect;
@@ -10,7 +12,7 @@ use layout::us::us_layout_unshift;
 use pieces::found::Seen;
 use reading::faults::ReadFault;
 use reading::reader::Reader;
-use report::report::Report;
+use report::told::Told;
 
 #[derive(Clone, Copy, Debug, PartialEq, Eq)]
 pub enum AnyLayout {
@@ -33,6 +35,7 @@ impl TryFrom<u32> for AnyLayout {
 
     ghost try_from_gives = { λ n r. MatchResult r (λ l. layout_number l ≡ n) (λ e. (e.0 ≡ n) × (2 ≤ n)) };
 
+    #[inline(always)]
     fn try_from(n: u32) -> Result<AnyLayout, Unknown> {
         match n {
             0 => Ok(AnyLayout::Us),
@@ -57,6 +60,7 @@ impl Layout for AnyLayout {
 
     ghost kept = { keeps };
 
+    #[inline(always)]
     fn base_of(&self, c: char) -> char {
         match self {
             AnyLayout::Us => us_layout_unshift(c),
@@ -87,6 +91,15 @@ impl From<AnyDialect> for u32 {
     }
 }
 
+// By value: what lends its address out would stand in memory for the other dialect too.
+#[inline(never)]
+fn write_frame(report: Told, out: &mut [u8; 512]) -> usize
+    ensures count { result ≡ length (frame_bytes (told_means report.entry)) }
+    ensures after { out.new ≡ frame_bytes (told_means report.entry) ++ drop result out.old }
+{
+    FrameBytes.write(&report, out)
+}
+
 impl Dialect for AnyDialect {
     ghost bytes = { bytes_in };
 
@@ -94,10 +107,11 @@ impl Dialect for AnyDialect {
 
     ghost apart = { parts };
 
-    fn write(&self, report: &Report, out: &mut [u8; 512]) -> usize {
+    #[inline(always)]
+    fn write(&self, report: &Told, out: &mut [u8; 512]) -> usize {
         match self {
             AnyDialect::Kitty => KittyBytes.write(report, out),
-            AnyDialect::Frames => FrameBytes.write(report, out),
+            AnyDialect::Frames => write_frame(*report, out),
         }
     }
 }

@@ -6,3 +6,4 @@ pub mod calls;
 pub mod kept;
 pub mod known;
 pub mod opening;
+mod over;

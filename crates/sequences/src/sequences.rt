@@ -37,7 +37,7 @@ fn sequence(head: Head, last: Last, text: Text, next: usize) -> Result<Told, Fau
     ensures { Makes (filled (lead head) last (characters text)) next result }
 {
     let sequence = head.into_sequence(last, text).ok_or(Fault::Unknown)?;
-    if is_plain(&sequence) {
+    if is_plain(&sequence.told()) {
         Err(Fault::Unknown)
     } else {
         Ok(Told { sequence, next })

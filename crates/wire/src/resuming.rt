@@ -1,5 +1,5 @@
 // A wire goes on from what a caller kept of it, where that is a wire's.
-ghost use Rattle.std.specs.Prelude.{◌≡◌, ◌<◌, ◌≤◌, ◌⊎◌, length, MatchOption};
+ghost use Rattle.std.specs.Prelude.{◌≡◌, ◌<◌, ◌≤◌, ◌⊎◌, min, length, MatchOption};
 
 use crate::page::Page;
 use crate::ring::{ROOM, Ring};
@@ -42,14 +42,14 @@ impl Ring {
 }
 
 impl<'a> Page<'a> {
-    // The page over this buffer, at whose front so many bytes wait.
-    pub fn resume(buffer: &'a mut [u8], len: usize) -> Option<Page<'a>>
-        ensures { MatchOption result (length buffer.old < len) (λ p. (p.buffer.now ≡ buffer.old) × (p.len ≡ len)) }
+    // The page over this buffer, at whose front so many bytes wait, or all that it has. A caller that would refuse a
+    // longer count compares first: behind an `Option` no caller could say what its buffer holds at the end.
+    pub fn resume(buffer: &'a mut [u8], len: usize) -> Page<'a>
+        ensures same { result.buffer ≡ buffer.entry }
+        ensures len { result.len ≡ min len (length buffer.old) }
     {
-        if len > buffer.len() {
-            return None;
-        }
-        Some(Page { buffer, len })
+        let len = len.min(buffer.len());
+        Page { buffer, len }
     }
 
     pub fn len(&self) -> usize

@@ -1,8 +1,8 @@
-use Rattle.std.proofs.Common.{◌≡◌, ℕ, ◌+◌, ◌<◌, ◌≤◌, List, [], ◌++◌, length, get_or, take, sym, ap, ◌∙◌, subst, arith}
+use Rattle.std.proofs.Common.{◌≡◌, ℕ, ◌+◌, ◌<◌, List, [], ◌++◌, length, get_or, take, sym, ap, ◌∙◌, arith}
 use Rattle.std.specs.List.{flat_map}
-use Rattle.std.proofs.lemmas.List.{get_or_default, flat_map_more, take_more, take_all}
-use Rattle.report.specs.Meanings.{characters}
-use Rattle.dialect.proofs.Typing.{length-characters}
+use Rattle.std.proofs.lemmas.List.{flat_map_more, take_more}
+use Rattle.report.specs.Letters.{spelled}
+use Rattle.dialect.proofs.Typing.{inside, next_is, behind_is}
 use Rattle.dialect.proofs.Writing.{writes_as, writes_more}
 use Rattle.frames.specs.Framing.{le32}
 use Rattle.frames.proofs.frames.put_codes.Goals as goal
@@ -13,20 +13,19 @@ longer cs i h = flat_map_more le32 [] (take i cs) (get_or cs i 0) ∙ ap (flat_m
 
 pub put_le32-requires : goal.put_le32-requires
 put_le32-requires c =
-    let within : c.loop-c.c-index < length (characters c.args.text.now) = subst (λ (xs : List ℕ). c.loop-c.c-index < length xs) c.as_slice-codes.ensures c.loop-c-test.true in
-    omega (arith, c.requires, c.loop-c.invariant.place, within, length-characters c.args.text.now)
+    let h = sym c.loop.invariant.behind ∙ c.in-Some.ensures in
+    omega (arith, c.requires, c.loop.invariant.place, inside (spelled c.args.letters.spelling) c.loop.counter c.in-Some.c _ h)
 
-pub loop-c-preserved : goal.loop-c-preserved
-loop-c-preserved c =
-    let cs = characters c.args.text.now in
-    let i = c.loop-c.c-index in
-    let e = c.as_slice-codes.ensures in
-    let within : i < length cs = subst (λ (xs : List ℕ). i < length xs) e c.loop-c-test.true in
-    let item : c.c-item.result ≡ get_or cs i 0 = c.c-item.is ∙ ap (λ (xs : List ℕ). get_or xs i c.c-item.result) e ∙ get_or_default cs i c.c-item.result 0 within in
-    record { place = omega (arith, c.loop-c.invariant.place, c.put_le32.ensures.wrote.place); wrote = writes_as (longer cs i within) (writes_more c.loop-c.invariant.wrote (writes_as (ap le32 item) c.put_le32.ensures)) }
-
-pub returns : goal.returns
-returns c =
-    let cs = characters c.args.text.now in
-    let all : length cs ≤ c.loop-c.c-index = subst (λ (xs : List ℕ). length xs ≤ c.loop-c.c-index) c.as_slice-codes.ensures c.loop-c-test.false in
-    writes_as (ap (flat_map le32) (take_all c.loop-c.c-index cs all)) c.loop-c.invariant.wrote
+pub loop-preserved : goal.loop-preserved
+loop-preserved c =
+    let cs = spelled c.args.letters.spelling in
+    let i = c.loop.counter in
+    let rest = spelled c.in-Some.behind.spelling in
+    let h = sym c.loop.invariant.behind ∙ c.in-Some.ensures in
+    let within = inside cs i c.in-Some.c rest h in
+    let item = sym (next_is cs i c.in-Some.c rest h) in
+    record {
+      place = omega (arith, c.loop.invariant.place, c.put_le32.ensures.wrote.place);
+      behind = sym (behind_is cs i c.in-Some.c rest h);
+      wrote = writes_as (longer cs i within) (writes_more c.loop.invariant.wrote (writes_as (ap le32 item) c.put_le32.ensures));
+    }

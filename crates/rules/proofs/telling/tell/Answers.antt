@@ -1,7 +1,7 @@
 use Rattle.std.proofs.Common.{sym, subst}
 use Rattle.report.specs.Meanings.{Clear}
 use Rattle.events.specs.Passed.{event_of}
-use Rattle.rules.specs.Laws.{Told, Own, Lawful}
+use Rattle.rules.specs.Laws.{IfTold, Own, Lawful}
 use Rattle.rules.proofs.Clearness.{told_clear}
 use Rattle.rules.proofs.Numbers.{own_number}
 use Rattle.rules.proofs.telling.tell.Goals as goal
@@ -14,6 +14,6 @@ returns g c =
     let said = sym c.first_said.ensures in
     record {
       value = c.first_said.ensures;
-      clear = λ d. subst (Told Clear) said (told_clear b c.args.flags.bits e d);
-      own = λ k h. subst (Told (Own b)) said (own_number b c.args.flags.bits e k laws c.args.key.passed h);
+      clear = λ d. subst (IfTold Clear) said (told_clear b c.args.flags.bits e d);
+      own = λ k h. subst (IfTold (Own b)) said (own_number b c.args.flags.bits e k laws c.args.key.passed h);
     }

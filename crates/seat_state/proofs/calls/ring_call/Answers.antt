@@ -29,6 +29,6 @@ returns c =
       made = record { steps = m.steps; reading = m.reading; rest = m.rest; room = m.room };
       left = elim c.if-is_ok.branch [
         | then-is_ok w ↦ accepted r c.args.state.now c.if-is_ok.state (KeepsRing c.if-is_ok.state to) same (sym ok ∙ w.if-is_ok.true) (subst (λ k. KeepsRing k to) (sym w.state-is) w.of.ensures)
-        | else-is_ok w ↦ declined r c.args.state.now c.if-is_ok.state (KeepsRing c.if-is_ok.state to) same (sym ok ∙ w.if-is_ok.false) w.state-is (λ e is. unchanged v u _ _ _ _ (subst (λ x. Steps v (call_of (length before) call) (counted x) (moved_by call x after) u) is m.steps))
+        | else-is_ok w ↦ declined r c.args.state.now c.if-is_ok.state (KeepsRing c.if-is_ok.state to) same (sym ok ∙ w.if-is_ok.false) (λ e is. (w.state-is, unchanged v u _ _ _ _ (subst (λ x. Steps v (call_of (length before) call) (counted x) (moved_by call x after) u) is m.steps)))
       ];
     })

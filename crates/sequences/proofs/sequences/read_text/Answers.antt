@@ -1,7 +1,7 @@
 use Rattle.std.proofs.Common.{◌<◌, ◌≤◌, length, Some, Err, refl, subst, arith}
 use Rattle.report.specs.declared.text.Text.{Text}
 use Rattle.report.specs.Meanings.{characters}
-use Rattle.dialect.proofs.Typing.{length-characters}
+use Rattle.report.proofs.Rows.{length-characters}
 use Rattle.pieces.specs.declared.found.Fault.TheVariants.{Unknown}
 use Rattle.pieces.specs.declared.found.Range.TheVariants.{Code}
 use Rattle.pieces.proofs.Stages.{Stage}

@@ -1,12 +1,11 @@
-use Rattle.std.proofs.Common.{◌≤◌, length, ◌∙◌, arith}
+use Rattle.std.proofs.Common.{refl, arith}
 use Rattle.dialect.specs.Numbers.{code_short}
-use Rattle.dialect.proofs.Writing.{writes_as, writes_put}
 use Rattle.dialect.proofs.pen.Pen.code.Goals as goal
+
+pub put_decimal-self-requires : goal.put_decimal-self-requires
+put_decimal-self-requires c = let s = code_short c.args.n c.requires.0 in omega (arith, s, c.requires.1)
 
 pub returns : goal.returns
 returns c =
-    let e = c.as_bytes.ensures.value ∙ c.format.ensures.text in
-    let s = code_short c.args.n (omega arith) in
-    let h : length c.as_bytes.result.now ≤ 7 = rw e s in
-    let w = writes_as e (writes_put (omega arith) c.bytes.ensures.put c.bytes.ensures.same_row) in
-    record { wrote = w; near = omega (arith, w.wrote.place, s) }
+    let s = code_short c.args.n c.requires.0 in
+    record { wrote = record { wrote = c.put_decimal-self.ensures; same_row = refl }; near = omega (arith, c.put_decimal-self.ensures.place, s) }

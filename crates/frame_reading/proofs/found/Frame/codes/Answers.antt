@@ -5,7 +5,7 @@ use Rattle.std.proofs.lemmas.List.{append-nil}
 use Rattle.report.specs.declared.report.Report.TheVariants.{Sequence}
 use Rattle.report.specs.Meanings.{Sound, characters}
 use Rattle.report.proofs.Validity.{valid}
-use Rattle.dialect.proofs.Typing.{length-characters}
+use Rattle.report.proofs.Rows.{length-characters}
 use Rattle.pieces.specs.Languages.{Takes, whole}
 use Rattle.sequences.specs.Parts.{Tells, filled}
 use Rattle.sequences.proofs.TextLaws.{pushed}

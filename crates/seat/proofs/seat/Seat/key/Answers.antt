@@ -17,7 +17,7 @@ returns-in-None g c =
     let e = plain_event c.args.event.now in
     let same : event_of k ≡ e = ap plain_event c.in_ok-key.ensures in
     let s = silent v e (subst (λ x. faultless x ≡ true) same k.passed) c.top-flags.result.bits c.top-flags.ensures c.tell.result (c.tell.ensures.value ∙ ap (tells v.terms.base c.top-flags.result.bits) same) c.in-None.is in
-    record { steps = s; reading = goes (g.met.L.Layout.settled _) (g.met.L.Layout.kept _) (g.met.D.Dialect.sized _) (g.met.D.Dialect.apart _) s }
+    record { steps = s; reading = goes (g.met.L.Layout.settled _) (g.met.L.Layout.kept _) (g.met.D.Dialect.sized _) (g.met.D.Dialect.apart _) s; keeps = g.W.Wire.still _ }
 
 pub returns-in-Some : goal.returns-in-Some
 returns-in-Some g c =
@@ -26,5 +26,5 @@ returns-in-Some g c =
     let k = c.in_ok-key.key in
     let e = plain_event c.args.event.now in
     let same : event_of k ≡ e = ap plain_event c.in_ok-key.ensures in
-    let s = tells_report v e (subst (λ x. faultless x ≡ true) same k.passed) c.top-flags.result.bits c.top-flags.ensures c.tell.result (c.tell.ensures.value ∙ ap (tells v.terms.base c.top-flags.result.bits) same) c.in-Some.report c.in-Some.is w c.send.result c.send.ensures in
-    record { steps = s; reading = goes (g.met.L.Layout.settled _) (g.met.L.Layout.kept _) (g.met.D.Dialect.sized _) (g.met.D.Dialect.apart _) s }
+    let s = tells_report v e (subst (λ x. faultless x ≡ true) same k.passed) c.top-flags.result.bits c.top-flags.ensures c.tell.result (c.tell.ensures.value ∙ ap (tells v.terms.base c.top-flags.result.bits) same) c.in-Some.report c.in-Some.is w c.send.result c.send.ensures.sent in
+    record { steps = s; reading = goes (g.met.L.Layout.settled _) (g.met.L.Layout.kept _) (g.met.D.Dialect.sized _) (g.met.D.Dialect.apart _) s; keeps = c.send.ensures.keeps }

@@ -2,11 +2,15 @@
 use Rattle.std.proofs.Common.{◌≡◌, ℕ, true, false, List, [], ◌∷◌, ◌++◌, length, take, drop, Ok, Err, Result, refl, sym, ap, subst, arith, take-append-drop}
 use Rattle.std.proofs.lemmas.List.{length-take-le}
 use Rattle.std.specs.Result.{is_ok}
+use Rattle.wire.specs.declared.lent_ring.LentRing.{LentRing}
 use Rattle.wire.specs.declared.page.Page.{Page}
+use Rattle.wire.specs.declared.ring.Ring.{Ring}
 use Rattle.wire.specs.Waiting.{page_waiting}
 use Rattle.wire.specs.Pages.{SamePage}
 use Rattle.seat.specs.declared.refusal.Refusal.{Refusal}
+use Rattle.seat_state.specs.declared.kept.Kept.{Kept}
 use Rattle.seat_state.specs.declared.kept.PageState.{PageState}
+use Rattle.seat_state.specs.declared.kept.RingState.{RingState}
 use Rattle.seat_state.specs.Keeping.{PageSeat, KeepsPage}
 use Rattle.seat_state.specs.Calls.{Leaves, LeavesPage}
 
@@ -41,3 +45,13 @@ leaves_page p k page' s same is size kept =
 
 pub both_stay : (k k' : PageState) (p p' : List ℕ) → k' ≡ k → p' ≡ p → (let a : PageState × List ℕ = (k', p') in a) ≡ (k, p)
 both_stay k k' p p' e f = cc
+
+-- The ring that a lent one is, with the table as it stands.
+abbrev pub owned : LentRing → Ring
+owned r = record { table = r.table.now; head = r.head; len = r.len; begins = r.begins; held = r.held }
+
+same_state : (a b : Kept) (h i c d : ℕ) (t u : List ℕ) → a ≡ b → h ≡ i → c ≡ d → t ≡ u → (let s : RingState = record { kept = a; head = h; count = c; table = t } in s) ≡ record { kept = b; head = i; count = d; table = u }
+same_state a b h i c d t u e f g k = cc
+
+pub ring_stays : (k k' : RingState) → k'.kept ≡ k.kept → k'.head ≡ k.head → k'.count ≡ k.count → k'.table ≡ k.table → k' ≡ k
+ring_stays k k' e f g h = same_state _ _ _ _ _ _ _ _ e f g h

@@ -5,19 +5,26 @@ ghost use Rattle.seat_state.specs.Calls.{RingAnswers, PageAnswers};
 use crate::answer::{Answer, NO_STATE};
 use crate::kept::{PageState, RingState};
 use crate::over::call_over;
-use script::{Call, make};
+use script::Call;
+use wire::lent_ring::LentRing;
 use wire::page::Page;
 
 // Makes one call of a seat over a ring; what a drain hands over stands at the front of the buffer, whose rest stays.
 pub fn ring_call(state: &mut RingState, call: &Call, buffer: &mut [u8]) -> Answer
     ensures { RingAnswers state.old call.now buffer.old result buffer.new state.new }
 {
-    let Some(mut seat) = state.seat() else {
+    let Some(mut upper) = state.kept.upper() else {
         return Answer::refused(NO_STATE);
     };
-    let made = make(&mut seat, call, buffer);
+    if state.head >= 4096 || state.count > 4096 {
+        return Answer::refused(NO_STATE);
+    }
+    let (head, count) = (state.head as usize, state.count as usize);
+    let mut wire = LentRing::resume(&mut state.table, head, count);
+    let made = call_over(&mut wire, &mut upper, call, buffer);
     if made.is_ok() {
-        *state = RingState::of(&seat);
+        let (head, count) = (wire.head(), wire.len());
+        state.keep(&upper, head, count);
     }
     made.into()
 }

@@ -1,5 +1,5 @@
 // What a caller keeps of a seat, as plain numbers. Nothing is trusted of them before it is checked.
-ghost use Rattle.std.specs.Prelude.{◌≡◌, MatchOption};
+ghost use Rattle.std.specs.Prelude.{◌≡◌, ◌<◌, ◌≤◌, MatchOption};
 ghost use Rattle.seat_state.specs.Telling.{OneSeat, NeverRefused, OnePageSeat, PageNeverRefused};
 ghost use Rattle.seat_state.specs.Keeping.{Keeps, NoSeat, KeepsRing, NoRing, KeepsPage};
 ghost use Rattle.seat_state.specs.Over.{over};
@@ -114,6 +114,20 @@ impl RingState {
             count: wire.len() as u32,
             table: *wire.table(),
         }
+    }
+
+    // Keeps the numbers of a seat over the ring in its table, as that stands.
+    pub(crate) fn keep(&mut self, upper: &Upper, head: usize, count: usize)
+        requires place { head < 4096 }
+        requires few { count ≤ 4096 }
+        ensures kept { Keeps self.new.kept upper.now.layout upper.now.dialect upper.now.settings }
+        ensures head { self.new.head ≡ head }
+        ensures count { self.new.count ≡ count }
+        ensures table { self.new.table ≡ self.old.table }
+    {
+        self.kept = Kept::of(upper.layout, upper.dialect, &upper.settings);
+        self.head = head as u32;
+        self.count = count as u32;
     }
 }
 

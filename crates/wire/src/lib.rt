@@ -6,9 +6,11 @@ ghost use Rattle.std.specs.Result.{is_ok};
 ghost use Rattle.wire.specs.Moves.{fits, after_put, moves, filled};
 
 pub mod lent;
+pub mod lent_ring;
 pub mod page;
 pub mod resuming;
 pub mod ring;
+mod round;
 
 // The most bytes that one put takes.
 const MOST: usize = 512;

@@ -2,7 +2,8 @@
 ghost use Rattle.std.specs.Prelude.{◌≡◌, ◌<◌, ◌≤◌, ◌⊎◌, min, length, MatchOption};
 
 use crate::page::Page;
-use crate::ring::{ROOM, Ring};
+use crate::ring::Ring;
+use crate::round::ROOM;
 
 impl Ring {
     // The ring with this table, in which so many bytes wait from this place on.

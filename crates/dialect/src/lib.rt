@@ -2,6 +2,7 @@
 #![tactic(auto)]
 
 pub mod dialect;
+pub mod endings;
 pub mod kitty;
 pub mod pen;
 pub mod streams;

@@ -129,3 +129,13 @@ impl<'a> Pen<'a> {
         }
     }
 }
+
+// Puts bytes at a place of the row, and answers the place behind them. Where they would pass the end, none is put, and
+// the place stays.
+pub fn put_bytes(out: &mut [u8; 512], at: usize, bytes: &[u8]) -> usize
+    ensures { Put out.old at bytes.now out.new result }
+{
+    let mut pen = Pen::new(out, at);
+    pen.bytes(bytes);
+    pen.count()
+}

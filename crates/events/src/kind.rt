@@ -41,3 +41,10 @@ impl<'a> From<KeyCode<'a>> for Kind<'a> {
         }
     }
 }
+
+// The conversion above, as a function.
+pub fn kind_of<'a>(key: KeyCode<'a>) -> Kind<'a>
+    ensures { plain_kind result ≡ kind_of key.entry }
+{
+    key.into()
+}

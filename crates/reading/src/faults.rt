@@ -21,6 +21,13 @@ impl ReadFault {
     }
 }
 
+// `number`, as a function.
+pub fn fault_number(fault: ReadFault) -> u8
+    ensures { result ≡ fault_number fault }
+{
+    fault.number()
+}
+
 impl From<Fault> for ReadFault {
     ghost from_gives = { λ e r. r ≡ read_fault e };
 

@@ -1,5 +1,5 @@
 // The ways to make a report, and that every report is valid by its type.
-ghost use Rattle.std.specs.Prelude.{◌≡◌, false, MatchResult};
+ghost use Rattle.std.specs.Prelude.{◌≡◌, false, MatchOption, MatchResult};
 ghost use Rattle.report.specs.Sound.{bare, coded, fits, suits};
 ghost use Rattle.report.specs.Meanings.{AllValid, characters, fields, means, text as plainly, old as escaped};
 ghost use Rattle.report.specs.Made.{parted};
@@ -100,4 +100,28 @@ impl TryFrom<Parts> for Sequence {
             text,
         })
     }
+}
+
+// The sequence with these parts, where there is one: the conversion above, for a caller with the numbers alone.
+pub fn sequence_of(
+    number: u32,
+    shifted: Option<u32>,
+    base: Option<u32>,
+    sum: u8,
+    direction: Direction,
+    last: Last,
+    text: Text,
+) -> Option<Sequence>
+    ensures { MatchOption result (fits last number shifted base text.count ≡ false) (λ s. fields s ≡ parted number shifted base sum direction last (characters text)) }
+{
+    Sequence::try_from(Parts {
+        number,
+        shifted,
+        base,
+        sum,
+        direction,
+        last,
+        text,
+    })
+    .ok()
 }

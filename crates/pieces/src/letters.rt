@@ -83,8 +83,11 @@ pub fn read_letter(bytes: &[u8]) -> Result<Letter, Fault>
     let [b, ..] = bytes else {
         return Err(Fault::Short);
     };
+    // Before the match, in which a proof would name this arm by the number of ESC.
+    if *b == ESC {
+        return Err(Fault::Unknown);
+    }
     match *b {
-        ESC => Err(Fault::Unknown),
         0..=0x7f => Ok(Letter {
             code: *b as char,
             next: 1,

@@ -7,8 +7,8 @@ use Rattle.pieces.proofs.letters.read_letter.Goals as goal
 pub returns-in_default : goal.returns-in_default
 returns-in_default c = subst (λ g. Takes Characters g part) (sym (none c.args.bytes.now (omega (arith, c.in_default.len_below)))) letter_empty
 
-pub returns-in-27 : goal.returns-in-27
-returns-in-27 c = subst (λ g. Takes Characters g nothing) (sym (from_1 c.args.bytes.now (omega (arith, c.in-len1-up.len_at_least)))) (escape_none (get_or c.args.bytes.now 0 0) (drop 1 c.args.bytes.now) c.in-27.is)
+pub returns-then-b-eq-ESC : goal.returns-then-b-eq-ESC
+returns-then-b-eq-ESC c = subst (λ g. Takes Characters g nothing) (sym (from_1 c.args.bytes.now (omega (arith, c.in-len1-up.len_at_least)))) (escape_none (get_or c.args.bytes.now 0 0) (drop 1 c.args.bytes.now) c.if-b-eq-ESC.true)
 
 pub returns-in-194-to-223 : goal.returns-in-194-to-223
 returns-in-194-to-223 c =

@@ -4,7 +4,7 @@ ghost use Rattle.names.specs.PhysTable.{place_name};
 ghost use Rattle.name_writing.specs.KeyNames.{key_name};
 ghost use Rattle.name_writing.specs.Written.{to_buffer, written};
 
-use crate::pieces::{mapped, numbered};
+use crate::pieces::{put_mapped, put_numbered};
 use crate::put::put;
 use input_types::key_code::KeyCode;
 use input_types::phys_key_code::PhysKeyCode;
@@ -19,12 +19,12 @@ pub fn write_key_name(key: KeyCode<'_>, buffer: &mut [u8]) -> Result<usize, Name
     ensures { (result, buffer.new) ≡ to_buffer (key_name key.entry) buffer.old }
 {
     match key {
-        KeyCode::Char(c) => put(buffer, mapped(c).as_str()),
+        KeyCode::Char(c) => put_mapped(buffer, c),
         KeyCode::Composed(text) => put(buffer, checked(text)?),
-        KeyCode::RawCode(n) => put(buffer, numbered("raw:", n).as_str()),
+        KeyCode::RawCode(n) => put_numbered(buffer, "raw:", n),
         KeyCode::Physical(place) => put(buffer, phys_name(place)),
-        KeyCode::Numpad(n) => put(buffer, numbered("Numpad", n as u32).as_str()),
-        KeyCode::Function(n) => put(buffer, numbered("F", n as u32).as_str()),
+        KeyCode::Numpad(n) => put_numbered(buffer, "Numpad", n as u32),
+        KeyCode::Function(n) => put_numbered(buffer, "F", n as u32),
         _ => put(buffer, plain_name(key)),
     }
 }

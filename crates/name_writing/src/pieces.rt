@@ -1,27 +1,39 @@
-// Names of a word and a number, and of a word and a character.
+// Names of a word and a number, and of a word and a character, put to the front of a buffer.
+// Not put into their caller, and no name is handed out: a function clears the room of its locals at each call, and a
+// name would be copied.
 ghost use Rattle.std.specs.Prelude.{◌≡◌, ◌≤◌, ◌++◌, length, codes, decimal};
 ghost use Rattle.std.proofs.Math.Utf8.{encode};
+ghost use Rattle.name_writing.specs.Written.{written};
 
+use crate::put::put;
 use arrayvec::ArrayString;
 use itoa::Buffer;
+use names::fault::NameFault;
 
-// Not by `write!`: there is room by the clause, and its Result would only be let go.
-pub(crate) fn numbered(word: &str, n: u32) -> ArrayString<128>
+// The word and the digits go to the buffer each by itself: they are put together nowhere else.
+#[inline(never)]
+pub(crate) fn put_numbered(buffer: &mut [u8], word: &str, n: u32) -> Result<usize, NameFault>
     requires { length word.now ≤ 100 }
-    ensures { result.bytes ≡ word.now ++ decimal n }
+    ensures { (result, buffer.new) ≡ written (word.now ++ decimal n) buffer.old }
 {
-    let mut name = ArrayString::new();
-    name.push_str(word);
     let mut digits = Buffer::new();
-    name.push_str(digits.format(n));
-    name
+    let number = digits.format(n).as_bytes();
+    let front = word.len();
+    let count = front + number.len();
+    if count > buffer.len() {
+        return Err(NameFault::NoRoom);
+    }
+    buffer[..front].copy_from_slice(word.as_bytes());
+    buffer[front..count].copy_from_slice(number);
+    Ok(count)
 }
 
-pub(crate) fn mapped(c: char) -> ArrayString<128>
-    ensures { result.bytes ≡ codes "mapped:" ++ encode c }
+#[inline(never)]
+pub(crate) fn put_mapped(buffer: &mut [u8], c: char) -> Result<usize, NameFault>
+    ensures { (result, buffer.new) ≡ written (codes "mapped:" ++ encode c) buffer.old }
 {
-    let mut name = ArrayString::new();
+    let mut name = ArrayString::<128>::new();
     name.push_str("mapped:");
     name.push(c);
-    name
+    put(buffer, name.as_str())
 }

@@ -114,7 +114,9 @@ fn event_of<'a>(
     })
 }
 
-// Does something with the event that the words stand for, which borrows the texts of composed keys.
+// Does something with the event that the words stand for, which borrows the texts of composed keys. Not put into its
+// caller, whose other queries would pay for its locals.
+#[inline(never)]
 pub(crate) fn with_event<F: FnOnce(KeyEvent) -> Result<(), Refusal>>(
     heap: Global,
     words: &mut Words,

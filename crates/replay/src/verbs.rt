@@ -14,6 +14,7 @@ use input_types::control::{ctrl_mapping, is_ascii_control};
 use input_types::event::RawKeyEvent;
 use input_types::key_code::KeyCode;
 use input_types::modifiers::{KeyboardLedStatus, Modifiers};
+use input_types::phys_key_code::PhysKeyCode;
 use key_names::read_key_name;
 use layout::us::{Us, us_layout_unshift};
 use modifier_names::reading::read_modifiers;
@@ -26,6 +27,7 @@ use normal::Normal;
 use std::alloc::Global;
 use std::io::Write;
 
+#[inline(never)]
 pub(crate) fn answer_encode<W: Write, D: Dialect>(
     heap: Global,
     out: &mut W,
@@ -41,6 +43,7 @@ pub(crate) fn answer_encode<W: Write, D: Dialect>(
 }
 
 // Does something with the key that the last word stands for, which borrows the text of a composed key.
+#[inline(never)]
 fn with_key<F: FnOnce(KeyCode) -> Result<(), Refusal>>(
     heap: Global,
     words: &mut Words,
@@ -53,7 +56,54 @@ fn with_key<F: FnOnce(KeyCode) -> Result<(), Refusal>>(
     put(read_key(word, text.as_slice())?)
 }
 
+// Does something with the place that the last word stands for.
+#[inline(never)]
+fn with_place<F: FnOnce(PhysKeyCode) -> Result<(), Refusal>>(
+    words: &mut Words,
+    put: F,
+) -> Result<(), Refusal>
+    requires { F.IsAlwaysCallable put }
+{
+    put(read_place(words.last()?)?)
+}
+
+// The same of a character.
+#[inline(never)]
+fn with_char<F: FnOnce(char) -> Result<(), Refusal>>(
+    words: &mut Words,
+    put: F,
+) -> Result<(), Refusal>
+    requires { F.IsAlwaysCallable put }
+{
+    put(read_char(words.last()?)?)
+}
+
+// The same of bits.
+#[inline(never)]
+fn with_bits<F: FnOnce(u16) -> Result<(), Refusal>>(
+    words: &mut Words,
+    put: F,
+) -> Result<(), Refusal>
+    requires { F.IsAlwaysCallable put }
+{
+    put(read_bits(words.last()?)?)
+}
+
+// The same of bytes.
+#[inline(never)]
+fn with_text<F: FnOnce(&[u8]) -> Result<(), Refusal>>(
+    heap: Global,
+    words: &mut Words,
+    put: F,
+) -> Result<(), Refusal>
+    requires { F.IsAlwaysCallable put }
+{
+    let text = read_bytes(heap, words.last()?)?;
+    put(text.as_slice())
+}
+
 // The name that `write` puts to the front of a row.
+#[inline(never)]
 fn put_name<W: Write, T, F: FnOnce(T, &mut [u8]) -> Result<usize, NameFault>>(
     out: &mut W,
     named: T,
@@ -83,13 +133,35 @@ fn function_code(words: &mut Words) -> Result<Option<u32>, Bad> {
     Ok(raw.kitty_function_code())
 }
 
-fn modifiers_in(words: &mut Words) -> Result<Modifiers, Bad> {
-    Ok(Modifiers {
-        bits: read_bits(words.last()?)?,
-    })
+#[inline(never)]
+fn answer_code<W: Write>(out: &mut W, words: &mut Words) -> Result<(), Refusal> {
+    let code = function_code(words)?;
+    Ok(put_optional(out, code, "none", |out, code| write!(out, "{code}"))?)
 }
 
-// Apart from `encode`, which would pay for the locals of all: a function clears their room at each call.
+// A report in the dialect that the next word names.
+#[inline(never)]
+fn answer_written<W: Write>(out: &mut W, words: &mut Words) -> Result<(), Refusal> {
+    match words.next()? {
+        "kitty" => answer_write(out, &Kitty, words),
+        "frame" => answer_write(out, &Frames, words),
+        _ => Err(Bad::Words.into()),
+    }
+}
+
+#[inline(never)]
+fn answer_told<W: Write>(heap: Global, out: &mut W, words: &mut Words) -> Result<(), Refusal> {
+    match words.next()? {
+        "kitty" => answer_read(heap, out, &Kitty, words),
+        "frame" => answer_read(heap, out, &Frames, words),
+        _ => Err(Bad::Words.into()),
+    }
+}
+
+// What each query asks for is a function of its own, here and above, that is not put into its caller: a function
+// clears the room of its locals at each call, and a query would pay for those of all others. `Bad::Verb` is said of no
+// other line than one that begins with another verb.
+#[inline(always)]
 pub(crate) fn answer_other<W: Write>(
     heap: Global,
     out: &mut W,
@@ -99,103 +171,74 @@ pub(crate) fn answer_other<W: Write>(
     match verb {
         "tophys" => with_key(heap, words, |key| {
             Ok(put_optional(out, key.to_phys(), "none", put_place)?)
-        })?,
+        }),
         "ismod" => with_key(heap, words, |key| {
             let truth = key.is_modifier();
             Ok(write!(out, "{truth}")?)
-        })?,
-        "keystr" => with_key(heap, words, |key| put_name(out, key, write_key_name))?,
-        "tokey" => put_key(out, read_place(words.last()?)?.to_key_code())?,
-        "isphysmod" => {
-            let truth = read_place(words.last()?)?.is_modifier();
-            write!(out, "{truth}")?
-        }
-        "physstr" => {
-            let place = read_place(words.last()?)?;
-            put_name(out, place, write_phys_name)?
-        }
-        "ctrl" => put_optional(
-            out,
-            ctrl_mapping(read_char(words.last()?)?),
-            "none",
-            put_char,
-        )?,
-        "asciictl" => put_optional(
-            out,
-            is_ascii_control(read_char(words.last()?)?),
-            "none",
-            put_char,
-        )?,
-        "unshift" => put_char(out, us_layout_unshift(read_char(words.last()?)?))?,
-        "xterm" => {
-            let number = modifiers_in(words)?.encode_xterm();
-            write!(out, "{number}")?
-        }
-        "nopos" => {
-            let bits = modifiers_in(words)?.remove_positional_mods().bits;
-            write!(out, "{bits}")?
-        }
-        "modstr" => {
-            let modifiers = modifiers_in(words)?;
-            put_name(out, modifiers, write_modifiers)?
-        }
-        "ledstr" => {
+        }),
+        "tokey" => with_place(words, |place| Ok(put_key(out, place.to_key_code())?)),
+        "isphysmod" => with_place(words, |place| {
+            let truth = place.is_modifier();
+            Ok(write!(out, "{truth}")?)
+        }),
+        "ctrl" => with_char(words, |c| {
+            Ok(put_optional(out, ctrl_mapping(c), "none", put_char)?)
+        }),
+        "asciictl" => with_char(words, |c| {
+            Ok(put_optional(out, is_ascii_control(c), "none", put_char)?)
+        }),
+        "unshift" => with_char(words, |c| Ok(put_char(out, us_layout_unshift(c))?)),
+        "xterm" => with_bits(words, |bits| {
+            let number = Modifiers { bits }.encode_xterm();
+            Ok(write!(out, "{number}")?)
+        }),
+        "nopos" => with_bits(words, |bits| {
+            let left = Modifiers { bits }.remove_positional_mods().bits;
+            Ok(write!(out, "{left}")?)
+        }),
+        "keystr" => with_key(heap, words, |key| put_name(out, key, write_key_name)),
+        "physstr" => with_place(words, |place| put_name(out, place, write_phys_name)),
+        "modstr" => with_bits(
+            words,
+            |bits| put_name(out, Modifiers { bits }, write_modifiers),
+        ),
+        "ledstr" => with_bits(words, |bits| {
             let leds = KeyboardLedStatus {
-                bits: (read_bits(words.last()?)? & 0xff) as u8,
+                bits: (bits & 0xff) as u8,
             };
-            put_name(out, leds, write_leds)?
-        }
-        "kittycode" => put_optional(
-            out,
-            function_code(words)?,
-            "none",
-            |out, code| write!(out, "{code}"),
-        )?,
+            put_name(out, leds, write_leds)
+        }),
+        "kittycode" => answer_code(out, words),
         "normshift" => with_event(
             heap,
             words,
             |event| Ok(put_event(out, &event.normalize_shift())?),
-        )?,
+        ),
         "normctrl" => with_event(
             heap,
             words,
             |event| Ok(put_event(out, &event.normalize_ctrl())?),
-        )?,
+        ),
         "resurface" => with_event(heap, words, |event| {
             Ok(put_event(out, &event.resurface_positional_modifier_key())?)
-        })?,
-        "keyname" => {
-            let text = read_bytes(heap, words.last()?)?;
-            let key = read_key_name(text.as_slice())?;
+        }),
+        "keyname" => with_text(heap, words, |text| {
+            let key = read_key_name(text)?;
             put(out, "ok ")?;
-            put_key(out, key)?
-        }
-        "physname" => {
-            let text = read_bytes(heap, words.last()?)?;
-            let place = read_phys_name(text.as_slice())?;
+            Ok(put_key(out, key)?)
+        }),
+        "physname" => with_text(heap, words, |text| {
+            let place = read_phys_name(text)?;
             put(out, "ok ")?;
-            put_place(out, place)?
-        }
-        "mods" => {
-            let text = read_bytes(heap, words.last()?)?;
-            let bits = read_modifiers(text.as_slice())?.bits;
-            write!(out, "ok {bits}")?
-        }
-        "composed" => {
-            let text = read_bytes(heap, words.last()?)?;
-            put_key(out, composed(text.as_slice())?)?
-        }
-        "write" => match words.next()? {
-            "kitty" => answer_write(out, &Kitty, words)?,
-            "frame" => answer_write(out, &Frames, words)?,
-            _ => return Err(Bad::Words.into()),
-        },
-        "read" => match words.next()? {
-            "kitty" => answer_read(heap, out, &Kitty, words)?,
-            "frame" => answer_read(heap, out, &Frames, words)?,
-            _ => return Err(Bad::Words.into()),
-        },
-        _ => return Err(Bad::Verb.into()),
+            Ok(put_place(out, place)?)
+        }),
+        "mods" => with_text(heap, words, |text| {
+            let bits = read_modifiers(text)?.bits;
+            Ok(write!(out, "ok {bits}")?)
+        }),
+        "composed" => with_text(heap, words, |text| Ok(put_key(out, composed(text)?)?)),
+        "write" => answer_written(out, words),
+        "read" => answer_told(heap, out, words),
+        _ => Err(Bad::Verb.into()),
     }
-    Ok(())
 }

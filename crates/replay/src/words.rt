@@ -15,7 +15,7 @@ use std::str::FromStr;
 // Words with a space between, those that are still to be read.
 // Not by `split`: an empty line has no word, and `are_just` looks at all that is left.
 // Without the allocator: each function that allocates says so by taking it.
-#[derive(Drop)]
+#[derive(Clone, Copy)]
 pub struct Words<'a> {
     rest: &'a str,
 }
@@ -76,7 +76,8 @@ pub(crate) fn read_bytes(heap: Global, word: &str) -> Result<Vec<u8>, Bad> {
         return Ok(Vec::new(heap));
     }
     hex::decode(heap, word).map_err(|fault| match fault {
-        FromHexError::OutOfMemory => Bad::Memory,
+        // A wrong digit is told though there was no memory for the bytes.
+        FromHexError::OutOfMemory if word.bytes().all(|b| b.is_ascii_hexdigit()) => Bad::Memory,
         _ => Bad::Hex,
     })
 }
@@ -84,8 +85,9 @@ pub(crate) fn read_bytes(heap: Global, word: &str) -> Result<Vec<u8>, Bad> {
 // A character by its code in hex.
 // Not by `from_str_radix`: it would take a sign in front.
 pub(crate) fn read_char(word: &str) -> Result<char, Bad> {
-    let code = word.chars().try_fold(0u32, |code, c| {
-        code.checked_mul(16)?.checked_add(c.to_digit(16)?)
+    let code = word.bytes().try_fold(0u32, |code, b| {
+        code.checked_mul(16)?
+            .checked_add(char::from(b).to_digit(16)?)
     });
     code.and_then(char::from_u32).ok_or(Bad::Hex)
 }

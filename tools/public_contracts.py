@@ -1,8 +1,13 @@
 #!/usr/bin/env python3
-"""Fails where a public function of a library crate promises nothing, or asks something of its caller."""
+"""Fails where a public function of a library crate promises nothing, or asks something of its caller.
+
+A conversion or printing by a trait of the library promises what its ghost member says.
+"""
 import pathlib
 import re
 import sys
+
+GHOSTS = {"From": "from_gives", "TryFrom": "try_from_gives", "Display": "output"}
 
 root = pathlib.Path(__file__).resolve().parent.parent / "crates"
 bad = []
@@ -14,6 +19,11 @@ for crate in sorted(root.iterdir()):
         lines = text.splitlines()
         in_trait = False
         for i, line in enumerate(lines):
+            made = re.match(r"impl(?:<.*?>)? (?:\w+::)*(From|TryFrom|Display)\b.* for ", line)
+            if made:
+                body = "\n".join(lines[i:]).split("\n}")[0]
+                if not re.search(rf"^\s*ghost {GHOSTS[made.group(1)]} = ", body, re.M):
+                    bad.append(f"{source.relative_to(root.parent)}:{i + 1}: {line.rstrip(' {')} has no {GHOSTS[made.group(1)]}")
             if re.match(r"pub trait ", line):
                 in_trait = True
             elif line.startswith("}"):

@@ -41,24 +41,6 @@ fn words_of(line: &[u8]) -> Result<Words, Bad> {
     Ok(Words::new(text.trim_end()))
 }
 
-// Lines of a host's requests and for the seat: asked for last, so that a query does not pay for it.
-#[inline(never)]
-fn answer_further<O: Write>(
-    heap: Global,
-    out: &mut O,
-    requests: &mut Reader,
-    verb: &str,
-    words: &mut Words,
-) -> Result<Option<Next>, Refusal> {
-    match verb {
-        "request" => answer_request(heap, out, requests, words)?,
-        "open" => return Ok(Some(Next::Opening(read_opening(heap, words)?))),
-        _ if is_call(verb) => return Ok(Some(Next::Call)),
-        _ => return Err(Bad::Verb.into()),
-    }
-    Ok(None)
-}
-
 impl<I: BufRead, O: Write> Session<I, O> {
     pub(crate) fn new(heap: Global, input: I, out: O) -> Session<I, O> {
         Session {
@@ -82,16 +64,10 @@ impl<I: BufRead, O: Write> Session<I, O> {
         match words.next()? {
             "encode" => answer_encode(heap, out, &Kitty, words)?,
             "frame" => answer_encode(heap, out, &Frames, words)?,
-            verb => match answer_other(heap, out, verb, words) {
-                Err(Refusal::Bad(Bad::Verb)) => return answer_further(
-                    heap,
-                    out,
-                    &mut self.requests,
-                    verb,
-                    words,
-                ),
-                answered => answered?,
-            },
+            "request" => answer_request(heap, out, &mut self.requests, words)?,
+            "open" => return Ok(Some(Next::Opening(read_opening(heap, words)?))),
+            verb if is_call(verb) => return Ok(Some(Next::Call)),
+            verb => answer_other(heap, out, verb, words)?,
         }
         Ok(None)
     }

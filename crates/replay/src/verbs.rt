@@ -159,8 +159,7 @@ fn answer_told<W: Write>(heap: Global, out: &mut W, words: &mut Words) -> Result
 }
 
 // What each query asks for is a function of its own, here and above, that is not put into its caller: a function
-// clears the room of its locals at each call, and a query would pay for those of all others. `Bad::Verb` is said of no
-// other line than one that begins with another verb.
+// clears the room of its locals at each call, and a query would pay for those of all others.
 #[inline(always)]
 pub(crate) fn answer_other<W: Write>(
     heap: Global,
